@@ -2,6 +2,7 @@
 #
 # The last line that they print is `N passed, M failed`; the status is 0 where something passed and nothing failed.
 unset PYTHONPATH PYTHONHOME PYTHONSTARTUP
+export PYTHONDONTWRITEBYTECODE=1
 python=/usr/bin/python3
 passed=0
 failed=0

@@ -49,22 +49,17 @@ fn lines_round(plan: &Plan, taken: &[Option<InputId>], element: u32) -> u32
 }
 
 /// Notes how the elements of a loop trace: each comes to itself, once round.
-fn note_loop(
-    plan: &Plan,
-    taken: &[Option<InputId>],
-    known: &mut [Option<Ending>],
-    element: u32,
-    count: u32,
-)
+fn note_loop(plan: &Plan, taken: &[Option<InputId>], known: &mut [Option<Ending>], element: u32)
     requires taken { AreTaken plan.now taken.now }
     requires element { element < length plan.now.elements }
     requires known { AreKnown plan.now (taken_in_list taken.now) known.old }
-    ensures { (line : ℕ) → taken_in_list taken.now element ≡ Some (line_input line) →
+    ensures { (count line : ℕ) → taken_in_list taken.now element ≡ Some (line_input line) →
         ComesBack plan.now (taken_in_list taken.now) count line →
         IsMoreKnown plan.now (taken_in_list taken.now) known.old known.new
         × IsKnown known.new element }
 {
     let _elements = plan.elements();
+    let count = lines_round(plan, taken, element);
     let mut at = element;
     for _line in 0..count {
         known[at as usize] = Some(Ending {
@@ -94,7 +89,7 @@ fn note_end(
         return;
     }
     match end {
-        End::Loop(_) => note_loop(plan, taken, known, last, lines_round(plan, taken, last)),
+        End::Loop(_) => note_loop(plan, taken, known, last),
         End::Source(_) | End::OwnClock(_) => known[last as usize] = Some(Ending { lines: 0, end }),
     }
 }

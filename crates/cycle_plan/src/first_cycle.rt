@@ -39,13 +39,8 @@ impl Ranking {
     {
         let sender = plan.from(line);
         let inputs = inputs_of(plan, sender);
-        let watch = first_open(
-            returns,
-            plan,
-            &self.ranks,
-            inputs,
-            self.watches[sender as usize],
-        );
+        let known = self.watches[sender as usize];
+        let watch = first_open(returns, plan, &self.ranks, inputs, known);
         let Some(first) = line_at(inputs, watch.first) else {
             unreachable!();
         };

@@ -2,7 +2,7 @@ ghost use Rattle.std.specs.Prelude.{◌≡◌, ◌<◌, ◌≤◌, ℕ, true, fa
 ghost use Rattle.std.specs.Option.{option_map};
 ghost use Rattle.sync_topo.specs.Lines.{line_count, inputs_of};
 ghost use Rattle.sync_topo.specs.WellFormed.{IsWellFormed};
-ghost use Rattle.cycle_plan.specs.private.Inputs.{line_at, AreWithin, is_open, is_of_another, AreOpenInputs, AreFirstOpen};
+ghost use Rattle.cycle_plan.specs.private.Inputs.{line_at, AreWithin, is_next, AreOpenInputs, AreFirstOpen};
 
 use crate::numbers::number_in;
 use rank_cert::Cert;
@@ -41,76 +41,49 @@ pub(crate) fn line_at(inputs: &[InputId], place: usize) -> Option<LineId>
     }
 }
 
-/// The input at a place is a line without a rank.
-fn is_open(cert: &Cert, inputs: &[InputId], place: usize) -> bool
-    requires { AreWithin (length cert.now) inputs.now }
-    ensures { result ≡ is_open cert.now inputs.now place }
-{
-    match line_at(inputs, place) {
-        Some(line) => cert.rank(line).is_none(),
-        None => false,
-    }
-}
-
-/// The first place from this one on whose input is a line without a rank, or the end.
-fn next_open(cert: &Cert, inputs: &[InputId], from: usize) -> usize
-    requires { AreWithin (length cert.now) inputs.now }
-    ensures within { result ≤ length inputs.now }
-    ensures from { from ≤ length inputs.now → from ≤ result }
-    ensures after { result < length inputs.now → from ≤ result }
-    ensures closed { (place : ℕ) → from ≤ place → place < result
-        → is_open cert.now inputs.now place ≡ false }
-    ensures found { result < length inputs.now
-        → is_open cert.now inputs.now result ≡ true }
-{
-    for place in from..inputs.len() {
-        if is_open(cert, inputs, place) {
-            return place;
-        }
-    }
-    inputs.len()
-}
-
-/// The input at a place is a line without a rank, of another number.
-fn is_of_another(
+/// The input at a place is a line without a rank, of another number if one is given.
+fn is_next(
     returns: ReturnRule,
     plan: &Plan,
     cert: &Cert,
     inputs: &[InputId],
-    bundle: u32,
+    apart: Option<u32>,
     place: usize,
 ) -> bool
     requires counted { length cert.now ≡ line_count plan.now }
     requires within { AreWithin (length cert.now) inputs.now }
-    ensures { result ≡ is_of_another returns plan.now cert.now inputs.now bundle place }
+    ensures { result ≡ is_next returns plan.now cert.now inputs.now apart place }
 {
-    match line_at(inputs, place) {
-        Some(line) => cert.rank(line).is_none() && number_in(returns, plan, line) != bundle,
-        None => false,
+    match (line_at(inputs, place), apart) {
+        (Some(line), None) => cert.rank(line).is_none(),
+        (Some(line), Some(number)) => {
+            cert.rank(line).is_none() && number_in(returns, plan, line) != number
+        }
+        (None, _) => false,
     }
 }
 
-/// The first place from this one on whose input is a line without a rank of another number, or the
-/// end.
-fn next_other(
+/// The first place from this one on whose input is such a line, or the end.
+fn next_from(
     returns: ReturnRule,
     plan: &Plan,
     cert: &Cert,
     inputs: &[InputId],
-    bundle: u32,
+    apart: Option<u32>,
     from: usize,
 ) -> usize
     requires counted { length cert.now ≡ line_count plan.now }
     requires inputs { AreWithin (length cert.now) inputs.now }
     ensures within { result ≤ length inputs.now }
+    ensures from { from ≤ length inputs.now → from ≤ result }
     ensures after { result < length inputs.now → from ≤ result }
     ensures closed { (place : ℕ) → from ≤ place → place < result
-        → is_of_another returns plan.now cert.now inputs.now bundle place ≡ false }
+        → is_next returns plan.now cert.now inputs.now apart place ≡ false }
     ensures found { result < length inputs.now
-        → is_of_another returns plan.now cert.now inputs.now bundle result ≡ true }
+        → is_next returns plan.now cert.now inputs.now apart result ≡ true }
 {
     for place in from..inputs.len() {
-        if is_of_another(returns, plan, cert, inputs, bundle, place) {
+        if is_next(returns, plan, cert, inputs, apart, place) {
             return place;
         }
     }
@@ -133,7 +106,7 @@ pub(crate) fn first_open(
     ensures back { result.back ≡ watch.back }
     ensures done { result.done ≡ watch.done }
 {
-    let first = next_open(cert, inputs, watch.first);
+    let first = next_from(returns, plan, cert, inputs, None, watch.first);
     let Some(line) = line_at(inputs, first) else {
         return OpenInputs {
             first,
@@ -143,14 +116,8 @@ pub(crate) fn first_open(
         };
     };
     let bundle = number_in(returns, plan, line);
-    let second = next_other(
-        returns,
-        plan,
-        cert,
-        inputs,
-        bundle,
-        watch.second.max(first + 1),
-    );
+    let from = watch.second.max(first + 1);
+    let second = next_from(returns, plan, cert, inputs, Some(bundle), from);
     OpenInputs {
         first,
         second,

@@ -187,13 +187,8 @@ impl Ranking {
         ensures watched { IsWatched returns plan.now self.new.ranks element result }
     {
         let inputs = inputs_of(plan, element);
-        let watch = first_open(
-            returns,
-            plan,
-            &self.ranks,
-            inputs,
-            self.watches[element as usize],
-        );
+        let known = self.watches[element as usize];
+        let watch = first_open(returns, plan, &self.ranks, inputs, known);
         self.watches[element as usize] = watch;
         watch
     }

@@ -6,6 +6,7 @@ use Rattle.std.proofs.lemmas.Bool.{lt-ltb, le-ltb}
 use Rattle.std.proofs.lemmas.List.{length-map}
 use Rattle.std.proofs.lemmas.List.Concat.{length-flat_map}
 use Rattle.std.proofs.lemmas.List.Elements.{All-append, All-nil}
+use Rattle.sync_text.specs.Chain.{unless}
 use Rattle.sync_text.specs.declared.errors.NoAnswer.{NoAnswer}
 use Rattle.sync_text.specs.Gives.{IfRefusal, Refuses}
 use Rattle.sync_text.proofs.Failures.{refused-more}
@@ -22,7 +23,6 @@ use Rattle.event_file.specs.declared.error.EventErr.TheVariants as refusal
 use Rattle.event_file.specs.declared.progress.CasesSoFar.{CasesSoFar}
 use Rattle.event_file.specs.Rows.{Fields, event_in, time_in, last_time, row_refusal}
 use Rattle.event_file.specs.private.Rows.{event_row}
-use Rattle.event_file.specs.EventText.{unless_refused}
 use Rattle.event_file.specs.CaseRows.{case_in, event_fields, case_before, may_follow, is_apart, rows_of, time_after, case_refusal, case_refusal_at}
 use Rattle.event_file.specs.CaseText.{names_of, case_of, cases_in, cases_of_rows, all_events}
 use Rattle.event_file.specs.private.CasesTaken.{with_current, with_event, AreSorted, AreTimely, IsTimely, AreCasesTaken, AreCasesLeft}
@@ -158,7 +158,7 @@ cases_refused plan rows row rest kept failed left broken = refused-more failed a
 
     answer : (error : EventErr) → case_refusal plan left.done (length left.done + 1) row ≡ Some error → cases_of_rows plan rows ≡ Err error
     answer error is =
-        ap (λ found. unless_refused found (cases_in plan rows))
+        ap (λ found. unless found (cases_in plan rows))
         (first_refusal-some (case_refusal_at plan rows) (length rows) (length left.done) error within
         (ap (λ list. case_refusal_at plan list (length left.done)) left.parts ∙ refusal-here plan left.done row rest ∙ is) sound)
 
@@ -176,7 +176,7 @@ cases_given plan rows kept left =
     = all-cases plan left.done kept.names kept.whole (case_before left.done) kept.current sorted.here ∙ ap (map (case_of plan left.done)) names in
     let same : cases_kept kept ≡ cases_in plan left.done = rw (sorted.shared, sorted.same_names, names, cases) refl in
     ap (cases_of_rows plan) all
-    ∙ ap (λ found. unless_refused found (cases_in plan left.done)) (first_refusal-none (case_refusal_at plan left.done) (length left.done) sorted.sound)
+    ∙ ap (λ found. unless found (cases_in plan left.done)) (first_refusal-none (case_refusal_at plan left.done) (length left.done) sorted.sound)
     ∙ ap Ok (sym same)
 
 -- and what else holds of them

@@ -6,6 +6,7 @@ use Rattle.std.proofs.lemmas.Bool.{cases_lt}
 use Rattle.std.proofs.lemmas.List.{get_or_append_left, length-append}
 use Rattle.std.proofs.Math.Seq.{get_or-append_seam}
 use Rattle.std.proofs.lemmas.List.Elements.{All-append, All-cons, All-nil, filter_map-append}
+use Rattle.sync_text.specs.Chain.{unless}
 use Rattle.sync_topo.specs.declared.event.Event.{Event}
 use Rattle.sync_topo.specs.Topology.{Topology}
 use Rattle.sync_topo.specs.Sizes.{event_limit}
@@ -13,7 +14,7 @@ use Rattle.sync_topo.specs.Events.{Fits, IsInOrder}
 use Rattle.csv_records.proofs.FirstRefusals.{first_refusal-some, first_refusal-none}
 use Rattle.event_file.specs.declared.error.EventErr.{EventErr}
 use Rattle.event_file.specs.Rows.{Fields as Row, event_in, time_in, time_before, row_refusal, refusal_at, last_time}
-use Rattle.event_file.specs.EventText.{events_in, events_of_rows, unless_refused}
+use Rattle.event_file.specs.EventText.{events_in, events_of_rows}
 use Rattle.event_file.specs.private.Taken.{AreTaken}
 
 -- what stands behind some rows
@@ -81,7 +82,7 @@ pub rows_refused : (plan : Topology) (rows : List Row) (n before : ℕ) (row : R
     → AreTaken plan rows n before (row ∷ rest) events → row_refusal plan (n + 1) before row ≡ Some error
     → events_of_rows plan rows ≡ Err error
 rows_refused plan rows n before row rest events error taken broken =
-    ap (λ refusal. unless_refused refusal (events_in plan rows))
+    ap (λ refusal. unless refusal (events_in plan rows))
     (first_refusal-some (refusal_at plan rows) (length rows) n error within (next_refusal plan rows n before row rest events taken ∙ broken) taken.sound)
   where
     within : n < length rows
@@ -95,5 +96,5 @@ pub rows_given : (plan : Topology) (rows : List Row) (n before : ℕ) (events : 
 rows_given plan rows n before events taken =
     let all : rows ≡ taken.done = taken.whole ∙ append-nil taken.done in
     let size : length rows ≡ n = ap length all ∙ taken.numbered in
-    ap (λ refusal. unless_refused refusal (events_in plan rows)) (first_refusal-none (refusal_at plan rows) (length rows) (λ i below. taken.sound i (omega arith)))
+    ap (λ refusal. unless refusal (events_in plan rows)) (first_refusal-none (refusal_at plan rows) (length rows) (λ i below. taken.sound i (omega arith)))
     ∙ ap Ok (ap (events_in plan) all ∙ sym taken.given)

@@ -2,6 +2,7 @@
 use Rattle.std.specs.Prelude.{ℕ, Bool, false, ◌&&◌, List, [], ◌∷◌, ◌++◌, length, map, codes, Result, Err, if◌then◌else◌}
 use Rattle.std.specs.List.{flat_map}
 use Rattle.std.specs.Str.{bytes_eq}
+use Rattle.sync_text.specs.Chain.{unless}
 use Rattle.csv_records.specs.Records.{records_of}
 use Rattle.csv_records.specs.FirstRefusal.{first_refusal}
 use Rattle.sync_topo.specs.declared.event.Case.{Case}
@@ -11,7 +12,7 @@ use Rattle.event_file.specs.declared.error.EventErr.{EventErr}
 use Rattle.event_file.specs.declared.error.EventErr.TheVariants.{Header}
 use Rattle.event_file.specs.declared.case_file.Cases.{Cases}
 use Rattle.event_file.specs.Rows.{Fields}
-use Rattle.event_file.specs.EventText.{events_in, is_header, unless_refused}
+use Rattle.event_file.specs.EventText.{events_in, is_header}
 use Rattle.event_file.specs.CaseRows.{case_in, rows_of, case_refusal_at}
 
 -- the record is the header: `case`, and the header of an event file
@@ -39,7 +40,7 @@ cases_in plan rows = record { common = events_in plan (rows_of rows []); names =
 
 -- the cases of some rows, or the first refusal
 abbrev pub cases_of_rows : Topology → List Fields → Result Cases EventErr
-cases_of_rows plan rows = unless_refused (first_refusal (case_refusal_at plan rows) (length rows)) (cases_in plan rows)
+cases_of_rows plan rows = unless (first_refusal (case_refusal_at plan rows) (length rows)) (cases_in plan rows)
 
 -- the header first, and then a row for each event
 abbrev pub cases_of_records : Topology → List Fields → Result Cases EventErr

@@ -1,7 +1,8 @@
 -- The events that a text gives, or the first rule that it breaks. This project's own.
-use Rattle.std.specs.Prelude.{ℕ, Bool, false, ◌&&◌, List, [], ◌∷◌, length, codes, Option, Some, None, Result, Ok, Err, if◌then◌else◌}
+use Rattle.std.specs.Prelude.{ℕ, Bool, false, ◌&&◌, List, [], ◌∷◌, length, codes, Result, Err, if◌then◌else◌}
 use Rattle.std.specs.List.{filter_map}
 use Rattle.std.specs.Str.{bytes_eq}
+use Rattle.sync_text.specs.Chain.{unless}
 use Rattle.csv_records.specs.Records.{records_of}
 use Rattle.csv_records.specs.FirstRefusal.{first_refusal}
 use Rattle.sync_topo.specs.declared.event.Event.{Event}
@@ -20,14 +21,9 @@ is_header _ = false
 abbrev pub events_in : Topology → List Fields → List Event
 events_in plan rows = filter_map (event_in plan) rows
 
--- what is read, where nothing is refused
-abbrev pub unless_refused : {A : Type 0} → Option EventErr → A → Result A EventErr
-unless_refused None read = Ok read
-unless_refused (Some refused) read = Err refused
-
 -- the events of some rows, or the first refusal
 abbrev pub events_of_rows : Topology → List Fields → Result (List Event) EventErr
-events_of_rows plan rows = unless_refused (first_refusal (refusal_at plan rows) (length rows)) (events_in plan rows)
+events_of_rows plan rows = unless (first_refusal (refusal_at plan rows) (length rows)) (events_in plan rows)
 
 -- the header first, and then a row for each event
 abbrev pub events_of_records : Topology → List Fields → Result (List Event) EventErr

@@ -23,4 +23,5 @@ mod word;
 pub use case_file::{Cases, read_cases};
 pub use error::EventErr;
 pub use reading::read_events;
+pub use row::time_of;
 pub use word::{Word, WordTarget};

@@ -84,8 +84,10 @@ pub(crate) fn event_said(
     }
 }
 
-/// The millisecond that some bytes name, if an event may stand there.
-fn time_of(bytes: &[u8]) -> Option<u64>
+/// The millisecond that some bytes name.
+///
+/// `None` where they are no number, or one above 86,400,000. This project's own.
+pub fn time_of(bytes: &[u8]) -> Option<u64>
     ensures time { result ≡ option_and_then in_time (number_of bytes.now) }
     ensures within { IfSome result (λ at. at ≤ last_time) }
 {

@@ -3,3 +3,4 @@ pub mod NotingLaws
 pub mod BoundLaws
 pub mod RunLaws
 pub mod LaterRows
+pub mod Reached

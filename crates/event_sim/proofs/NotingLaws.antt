@@ -22,15 +22,17 @@ use Rattle.sync_net.specs.NetState.{NetState}
 use Rattle.event_sim.specs.declared.shown.Shown.{Shown}
 use Rattle.event_sim.specs.declared.change.Change.{Change}
 use Rattle.event_sim.specs.Rows.{shows_other, shown_after, row_of}
-use Rattle.event_sim.specs.private.Showing.{Shows, kept_in, AreSeen, AreRenewed, others_in}
+use Rattle.event_sim.specs.private.Showing.{Shows, kept_in, AreSeen, others_in}
 use Rattle.event_sim.proofs.RowLaws.{other-same}
 
 -- at first nothing was looked at
 pub seen-none : (net : NetState) (was : List Shown) (listed : List ℕ) → listed ≡ [] → AreSeen net [] was was listed
 seen-none net was listed none = record {
-  count = refl;
-  seen = λ place other within has. absurd (true≢false (sym has));
-  left = λ place has. refl;
+  renewed = record {
+    count = refl;
+    seen = λ place other within has. absurd (true≢false (sym has));
+    left = λ place has. refl;
+  };
   apart = subst (IsDistinct nat_eq) (sym none) (IsDistinct-from_apart nat_eq [] (λ i j d before within. absurd (omega (arith, within))));
   changed = λ place. ap (list_any (nat_eq place)) none ∙ sym (other-same (kept_in net.plan was place));
 }
@@ -44,20 +46,22 @@ pub seen-more : (net : NetState) (done done_then : List ℕ) (was shown : List S
     → listed_then ≡ (if shows_other old now then listed ++ place ∷ [] else listed)
     → AreSeen net done was shown listed → AreSeen net done_then was (set shown place now) listed_then
 seen-more net done done_then was shown listed listed_then place old now more fresh within read shows lists seen = record {
-  count = length-set shown place now ∙ seen.count;
-  seen = λ e other inside has. elim (eqb_tells e place) [
-    | inl same ↦
-        let here : e ≡ place = same.1 in
-        subst (λ k. Shows net.plan k (slice_index_or net.elements k other) (kept_in net.plan (set shown place now) k)) (sym here)
-        (subst (Shows net.plan place (slice_index_or net.elements place other)) (sym kept-here) (shows other))
-    | inr apart ↦
-        let earlier : list_any (nat_eq e) done ≡ true = or-left (list_any (nat_eq e) done) (nat_eq e place) apart.0 (sym (more e) ∙ has) in
-        subst (Shows net.plan e (slice_index_or net.elements e other)) (sym (kept-there e apart.1)) (seen.seen e other inside earlier)
-  ];
-  left = λ e none. elim (eqb_tells e place) [
-    | inl same ↦ absurd (true≢false (sym (or-right (list_any (nat_eq e) done) (nat_eq e place) same.0) ∙ sym (more e) ∙ none))
-    | inr apart ↦ kept-there e apart.1 ∙ seen.left e (or-none (list_any (nat_eq e) done) (nat_eq e place) (sym (more e) ∙ none))
-  ];
+  renewed = record {
+    count = length-set shown place now ∙ seen.renewed.count;
+    seen = λ e other inside has. elim (eqb_tells e place) [
+      | inl same ↦
+          let here : e ≡ place = same.1 in
+          subst (λ k. Shows net.plan k (slice_index_or net.elements k other) (kept_in net.plan (set shown place now) k)) (sym here)
+          (subst (Shows net.plan place (slice_index_or net.elements place other)) (sym kept-here) (shows other))
+      | inr apart ↦
+          let earlier : list_any (nat_eq e) done ≡ true = or-left (list_any (nat_eq e) done) (nat_eq e place) apart.0 (sym (more e) ∙ has) in
+          subst (Shows net.plan e (slice_index_or net.elements e other)) (sym (kept-there e apart.1)) (seen.renewed.seen e other inside earlier)
+    ];
+    left = λ e none. elim (eqb_tells e place) [
+      | inl same ↦ absurd (true≢false (sym (or-right (list_any (nat_eq e) done) (nat_eq e place) same.0) ∙ sym (more e) ∙ none))
+      | inr apart ↦ kept-there e apart.1 ∙ seen.renewed.left e (or-none (list_any (nat_eq e) done) (nat_eq e place) (sym (more e) ∙ none))
+    ];
+  };
   apart = subst (IsDistinct nat_eq) (sym lists) (distinct (shows_other old now));
   changed = λ e. ap (list_any (nat_eq e)) lists ∙ listed-then e (eqb_tells e place);
 }
@@ -66,7 +70,7 @@ seen-more net done done_then was shown listed listed_then place old now more fre
     kept-old = get_or_default shown place (shown_after net.plan place []) old within ∙ sym read
 
     old-was : old ≡ kept_in net.plan was place
-    old-was = sym kept-old ∙ seen.left place fresh
+    old-was = sym kept-old ∙ seen.renewed.left place fresh
 
     kept-here : kept_in net.plan (set shown place now) place ≡ now
     kept-here = get_or-set_same shown place now (shown_after net.plan place []) within
@@ -91,7 +95,7 @@ seen-more net done done_then was shown listed listed_then place old now more fre
     or-false false b is = is
 
     unlisted : list_any (nat_eq place) listed ≡ false
-    unlisted = seen.changed place ∙ ap (shows_other (kept_in net.plan was place)) (seen.left place fresh) ∙ other-same (kept_in net.plan was place)
+    unlisted = seen.changed place ∙ ap (shows_other (kept_in net.plan was place)) (seen.renewed.left place fresh) ∙ other-same (kept_in net.plan was place)
 
     distinct : (told : Bool) → IsDistinct nat_eq (if told then listed ++ place ∷ [] else listed)
     distinct true = IsDistinct-push nat_eq_equiv listed place seen.apart unlisted
@@ -138,13 +142,10 @@ seen-all net was now listed sorted seen count moved in_order =
       | yes inside ↦ inside
       | no beyond ↦
           let before : kept_in net.plan was place ≡ shown_after net.plan place [] = get_or-eq_default was (shown_after net.plan place []) (omega (arith, beyond, count)) in
-          let after : kept_in net.plan now place ≡ shown_after net.plan place [] = get_or-eq_default now (shown_after net.plan place []) (omega (arith, beyond, count, seen.count)) in
+          let after : kept_in net.plan now place ≡ shown_after net.plan place [] = get_or-eq_default now (shown_after net.plan place []) (omega (arith, beyond, count, seen.renewed.count)) in
           absurd (true≢false (sym differs ∙ ap (λ shown. shows_other shown (kept_in net.plan now place)) before
           ∙ ap (shows_other (shown_after net.plan place [])) after ∙ other-same (shown_after net.plan place [])))
     ])
-
-pub seen-renewed : (net : NetState) (was now : List Shown) (listed : List ℕ) → AreSeen net net.evaluated was now listed → AreRenewed net was now
-seen-renewed net was now listed seen = record { count = seen.count; seen = seen.seen; left = seen.left }
 
 -- the places that changed are places of the plan
 pub others-within : (plan : Topology) (was now : List Shown) (n : ℕ) → length plan.elements ≡ n → All (λ place. place < n) (others_in plan was now)

@@ -101,7 +101,7 @@ turn-rows law net net_then was now events t before after same is is_then =
 
 -- the elements that a step left show what they showed
 pub shown-then : (net net_then : NetState) (was now : List Shown) → net_then.plan ≡ net.plan → AreAloneEvaluated net net_then
-    → AreShown net was → AreRenewed net_then was now → AreShown net_then now
+    → AreShown net was → AreRenewed net_then net_then.evaluated was now → AreShown net_then now
 shown-then net net_then was now same alone are renewed = record {
   few = subst (λ (plan : Topology). length plan.elements ≤ most_rows plan) (sym same) are.few;
   count = renewed.count ∙ are.count ∙ ap (λ (plan : Topology). length plan.elements) (sym same);

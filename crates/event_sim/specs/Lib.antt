@@ -3,6 +3,7 @@ pub mod Changes
 pub mod SimState
 pub mod Standing
 pub mod Answers
+pub mod Runs
 pub mod Bounds
 pub mod SimKept
 pub mod private

@@ -9,7 +9,7 @@
 //!
 //! | who asks | what |
 //! |---|---|
-//! | the one who makes a run | [`Sim::new`], [`Sim::advance`] |
+//! | the one who makes a run | [`run_to`], or [`Sim::new`] and [`Sim::advance`] |
 //! | who reads what came of it | [`Sim::changes`], [`Sim::reached`], [`Sim::net`] |
 //! | who has events for longer | [`events_until`] |
 //! | who proves something of a run in several advances | [`later_events_law`] |
@@ -27,10 +27,12 @@ mod crossing;
 mod laws;
 mod noting;
 mod running;
+mod runs;
 mod shown;
 mod sim;
 
 pub use change::{Change, Reach, Watch};
 pub use event_times::events_until;
 pub use laws::later_events_law;
+pub use runs::run_to;
 pub use sim::Sim;

@@ -1,11 +1,11 @@
 //! What a step changed.
 
-ghost use Rattle.std.specs.Prelude.{◌≡◌, ◌<◌, ◌≤◌, ◌∷◌, ◌++◌, ℕ, false, if◌then◌else◌, [], nat_eq, length, map, slice_index_or, OnOk, IfOk};
-ghost use Rattle.std.specs.List.{All, IsDistinct};
+ghost use Rattle.std.specs.Prelude.{◌≡◌, ◌<◌, ◌≤◌, ◌∷◌, ◌++◌, ℕ, false, if◌then◌else◌, [], length, map, slice_index_or, OnOk, IfOk};
+ghost use Rattle.std.specs.List.{All};
 ghost use Rattle.sync_topo.specs.Sizes.{most_rows};
 ghost use Rattle.event_sim.specs.declared.shown.Shown.{Shown};
 ghost use Rattle.event_sim.specs.Rows.{row_of};
-ghost use Rattle.event_sim.specs.private.Showing.{AreShown, AreSeen, AreRenewed, AreNoted, others_in};
+ghost use Rattle.event_sim.specs.private.Showing.{AreShown, AreSeen, AreRenewed, AreNoted, IsAfterStep, others_in};
 
 use crate::change::Change;
 use crate::shown::{Shown, shown_of, shows_other};
@@ -21,14 +21,9 @@ pub(crate) fn first_shown(alloc: Global, net: &Net<'_>) -> Result<Vec<Shown>, No
     let plan = net.plan();
     // What changes in one millisecond always fits.
     let _most = plan.most_rows();
-    let Ok(mut shown) = Vec::with_capacity(alloc, plan.elements() as usize) else {
-        return Err(NoMemory);
-    };
+    let mut shown = Vec::with_capacity(alloc, plan.elements() as usize)?;
     for element in 0..plan.elements() {
-        let now = shown_of(plan, element, net.element(element));
-        if shown.push(now).is_err() {
-            return Err(NoMemory);
-        }
+        shown.push(shown_of(plan, element, net.element(element)))?;
     }
     Ok(shown)
 }
@@ -39,10 +34,7 @@ fn look_at_evaluated(
     shown: &mut Vec<Shown>,
     changed: &mut Vec<u32>,
 ) -> Result<(), NoMemory>
-    requires live { net.now.spent ≡ false }
-    requires count { length shown.old.items ≡ length net.now.plan.elements }
-    requires within { All (λ element. element < length net.now.plan.elements) net.now.evaluated }
-    requires apart { IsDistinct nat_eq net.now.evaluated }
+    requires after_step { IsAfterStep net.now shown.old.items }
     requires empty { changed.old.items ≡ [] }
     ensures { OnOk result (AreSeen net.now net.now.evaluated
         shown.old.items shown.new.items changed.new.items) }
@@ -61,13 +53,10 @@ fn list_if(listed: &mut Vec<u32>, element: u32, told: bool) -> Result<(), NoMemo
     ensures { OnOk result (listed.new.items ≡
         (if told then listed.old.items ++ element ∷ [] else listed.old.items)) }
 {
-    if !told {
-        return Ok(());
+    if told {
+        listed.push(element)?;
     }
-    match listed.push(element) {
-        Ok(()) => Ok(()),
-        Err(_) => Err(NoMemory),
-    }
+    Ok(())
 }
 
 /// The elements that show something else since the last step, in their order.
@@ -76,11 +65,8 @@ fn find_changed(
     shown: &mut Vec<Shown>,
     changed: &mut Vec<u32>,
 ) -> Result<(), NoMemory>
-    requires live { net.now.spent ≡ false }
-    requires count { length shown.old.items ≡ length net.now.plan.elements }
-    requires within { All (λ element. element < length net.now.plan.elements) net.now.evaluated }
-    requires apart { IsDistinct nat_eq net.now.evaluated }
-    ensures renewed { OnOk result (AreRenewed net.now shown.old.items shown.new.items) }
+    requires after_step { IsAfterStep net.now shown.old.items }
+    ensures renewed { OnOk result (AreRenewed net.now net.now.evaluated shown.old.items shown.new.items) }
     ensures changed { OnOk result (changed.new.items
         ≡ others_in net.now.plan shown.old.items shown.new.items) }
 {
@@ -102,7 +88,7 @@ fn add_rows(
         (λ element. row_of now element (slice_index_or shown.now element (other element))) changed.now) }
 {
     for element in changed {
-        push_change(changes, row_of(now, *element, shown[*element as usize]))?;
+        changes.push(row_of(now, *element, shown[*element as usize]))?;
     }
     Ok(())
 }
@@ -121,15 +107,6 @@ fn row_of(now: u64, element: u32, shown: Shown) -> Change
     }
 }
 
-fn push_change(changes: &mut Vec<Change>, change: Change) -> Result<(), NoMemory>
-    ensures { OnOk result (changes.new.items ≡ changes.old.items ++ change ∷ []) }
-{
-    match changes.push(change) {
-        Ok(()) => Ok(()),
-        Err(_) => Err(NoMemory),
-    }
-}
-
 /// The most rows that a report on the network's plan may have.
 fn row_limit(net: &Net<'_>) -> usize
     ensures { result ≡ most_rows net.now.plan }
@@ -145,12 +122,9 @@ pub(crate) fn note_changes(
     changed: &mut Vec<u32>,
     changes: &mut Vec<Change>,
 ) -> Result<bool, NoMemory>
-    requires live { net.now.spent ≡ false }
-    requires count { length shown.old.items ≡ length net.now.plan.elements }
-    requires within { All (λ element. element < length net.now.plan.elements) net.now.evaluated }
-    requires apart { IsDistinct nat_eq net.now.evaluated }
+    requires after_step { IsAfterStep net.now shown.old.items }
     requires few { length changes.old.items ≤ most_rows net.now.plan }
-    ensures renewed { OnOk result (AreRenewed net.now shown.old.items shown.new.items) }
+    ensures renewed { OnOk result (AreRenewed net.now net.now.evaluated shown.old.items shown.new.items) }
     ensures noted { IfOk result (λ fits. AreNoted fits net.now now shown.old.items shown.new.items
         changes.old.items changes.new.items) }
 {

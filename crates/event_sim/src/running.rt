@@ -1,6 +1,6 @@
 //! A run of a network, from one millisecond in which something happens to the next.
 
-ghost use Rattle.std.specs.Prelude.{◌≡◌, ◌≤◌, ◌<◌, ◌+◌, ℕ, suc, true, false, nat_eq, if◌then◌else◌, List, OnOk, IfOk, IsTrue, All, length};
+ghost use Rattle.std.specs.Prelude.{◌≡◌, ◌≤◌, ◌<◌, ◌+◌, suc, true, false, nat_eq, if◌then◌else◌, List, OnOk, IfOk, IsTrue, All, length};
 ghost use Rattle.sync_topo.specs.declared.event.Event.{Event};
 ghost use Rattle.sync_topo.specs.Sizes.{most_rows};
 ghost use Rattle.sync_topo.specs.Events.{Fits};
@@ -42,34 +42,13 @@ impl<'a> Run<'a> {
         ensures shown { IfOk result (λ run. run.shown.items ≡ self.now.shown.items) }
         ensures changes { IfOk result (λ run. run.changes.items ≡ self.now.changes.items) }
     {
-        let shown = copy_shown(alloc, self.shown.as_slice())?;
-        let changes = copy_changes(alloc, self.changes.as_slice())?;
-        let net = self.net.try_clone(alloc)?;
         Ok(Run {
-            net,
+            shown: Vec::from_slice(alloc, self.shown.as_slice())?,
+            changes: Vec::from_slice(alloc, self.changes.as_slice())?,
+            net: self.net.try_clone(alloc)?,
             watch: self.watch,
-            shown,
             changed: Vec::new(alloc),
-            changes,
         })
-    }
-}
-
-fn copy_shown(alloc: Global, shown: &[Shown]) -> Result<Vec<Shown>, NoMemory>
-    ensures { IfOk result (λ copies. copies.items ≡ shown.now) }
-{
-    match Vec::from_slice(alloc, shown) {
-        Ok(copies) => Ok(copies),
-        Err(_) => Err(NoMemory),
-    }
-}
-
-fn copy_changes(alloc: Global, changes: &[Change]) -> Result<Vec<Change>, NoMemory>
-    ensures { IfOk result (λ copies. copies.items ≡ changes.now) }
-{
-    match Vec::from_slice(alloc, changes) {
-        Ok(copies) => Ok(copies),
-        Err(_) => Err(NoMemory),
     }
 }
 

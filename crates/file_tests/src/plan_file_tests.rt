@@ -5,12 +5,12 @@ use std::test::Fail;
 use sync_topo::{Place, PlanErr, Section};
 use test_makers::is_printed_as;
 
-const LINK: Place = Place {
+pub(crate) const LINK: Place = Place {
     section: Section::Links,
     row: 2,
 };
 
-const HEAD: Place = Place {
+pub(crate) const HEAD: Place = Place {
     section: Section::Head,
     row: 0,
 };

@@ -1,11 +1,12 @@
 //! What no clause says: that a plan is made, and that names and events are told apart.
 
+use crate::plan_file_tests::{HEAD, LINK};
 use plan_file::read_plan;
 use std::process::Abort;
 use std::test::Fail;
 use sync_ql::{NetOption, do_not_use};
 use sync_text::NoAnswer;
-use sync_topo::{Event, InputId, LineId, Part, Place, Plan, PlanErr, Section, Size, What};
+use sync_topo::{Event, InputId, LineId, Part, Plan, PlanErr, Size, What};
 use test_makers::is_printed_as;
 
 /// Three links in a bundle, the second with its ends swapped, one beside it, and a source.
@@ -109,16 +110,6 @@ fn plan_tells_names_bundles_and_events(rt: HostRuntime) -> Result<(), Fail> {
     takes_its_own_events(&rt, &plan);
     Ok(())
 }
-
-const LINK: Place = Place {
-    section: Section::Links,
-    row: 2,
-};
-
-const HEAD: Place = Place {
-    section: Section::Head,
-    row: 0,
-};
 
 #[test]
 fn plan_refusals_are_printed(rt: HostRuntime) -> Result<(), Fail> {

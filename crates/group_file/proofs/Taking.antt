@@ -5,6 +5,7 @@ use Rattle.std.specs.Str.{bytes_eq}
 use Rattle.std.proofs.lemmas.Bool.{true≢false, lt-ltb, le-ltb}
 use Rattle.std.proofs.lemmas.List.{map-append, length-map}
 use Rattle.std.proofs.lemmas.Option.{same_Some, none-some}
+use Rattle.sync_text.specs.Chain.{unless}
 use Rattle.sync_text.specs.declared.errors.NoAnswer.{NoAnswer}
 use Rattle.sync_text.specs.Gives.{IfRefusal, Refuses}
 use Rattle.sync_text.proofs.Failures.{refused-more}
@@ -27,7 +28,7 @@ use Rattle.group_file.specs.declared.parts.PartsSoFar.{PartsSoFar}
 use Rattle.group_file.specs.declared.progress.GroupsSoFar.{GroupsSoFar}
 use Rattle.group_file.specs.Kinds.{kind_of, is_same_kind, part_of_name}
 use Rattle.group_file.specs.Rows.{three_of, part_in, parts_in, rows_of, row_refusal, refusal_at}
-use Rattle.group_file.specs.GroupText.{group_of, groups_in, unless_refused, groups_of_rows}
+use Rattle.group_file.specs.GroupText.{group_of, groups_in, groups_of_rows}
 use Rattle.group_file.specs.private.PartsTaken.{listed_in, HasRoom, group_with}
 use Rattle.group_file.specs.private.GroupsTaken.{with_current, names_with, IsLast, IsCurrent, AreSorted, AreGroupsTaken, HasBegun, AreGroupsLeft}
 use Rattle.group_file.proofs.RowLaws.{rows_of-none, parts-here, groups-other, three_row, name-some, sound-more, refusal-before, refusal-here}
@@ -278,7 +279,7 @@ groups_refused plan rows row rest kept failed left broken = refused-more failed 
 
     answer : (error : GroupErr) → row_refusal plan left.done (length left.done + 1) row ≡ Some error → groups_of_rows plan rows ≡ Err error
     answer error is =
-        ap (λ found. unless_refused found (groups_in plan rows))
+        ap (λ found. unless found (groups_in plan rows))
         (first_refusal-some (refusal_at plan rows) (length rows) (length left.done) error within
         (ap (λ list. refusal_at plan list (length left.done)) left.parts ∙ refusal-here plan left.done row rest ∙ is) sound)
 
@@ -291,5 +292,5 @@ groups_given plan rows kept left =
     let same : with_current kept.whole kept.parts kept.current ≡ groups_in plan left.done
     = all-groups plan left.done kept.names kept.whole (case_before left.done) kept.parts kept.current left.taken.here ∙ ap (map (group_of plan left.done)) names in
     ap (groups_of_rows plan) all
-    ∙ ap (λ found. unless_refused found (groups_in plan left.done)) (first_refusal-none (refusal_at plan left.done) (length left.done) left.taken.sound)
+    ∙ ap (λ found. unless found (groups_in plan left.done)) (first_refusal-none (refusal_at plan left.done) (length left.done) left.taken.sound)
     ∙ ap Ok (sym same)

@@ -1,6 +1,7 @@
 -- The groups that a text gives, or the first rule that it breaks. This project's own.
-use Rattle.std.specs.Prelude.{ℕ, Bool, false, ◌&&◌, List, [], ◌∷◌, length, map, codes, Option, Some, None, Result, Ok, Err, if◌then◌else◌}
+use Rattle.std.specs.Prelude.{ℕ, Bool, false, ◌&&◌, List, [], ◌∷◌, length, map, codes, Result, Err, if◌then◌else◌}
 use Rattle.std.specs.Str.{bytes_eq}
+use Rattle.sync_text.specs.Chain.{unless}
 use Rattle.csv_records.specs.Records.{records_of}
 use Rattle.csv_records.specs.FirstRefusal.{first_refusal}
 use Rattle.sync_topo.specs.Topology.{Topology}
@@ -31,14 +32,9 @@ group_of plan rows name =
 abbrev pub groups_in : Topology → List Fields → List Group
 groups_in plan rows = map (group_of plan rows) (names_of rows)
 
--- what is read, where nothing is refused
-abbrev pub unless_refused : {A : Type 0} → Option GroupErr → A → Result A GroupErr
-unless_refused None read = Ok read
-unless_refused (Some refused) read = Err refused
-
 -- the groups of some rows, or the first refusal
 abbrev pub groups_of_rows : Topology → List Fields → Result (List Group) GroupErr
-groups_of_rows plan rows = unless_refused (first_refusal (refusal_at plan rows) (length rows)) (groups_in plan rows)
+groups_of_rows plan rows = unless (first_refusal (refusal_at plan rows) (length rows)) (groups_in plan rows)
 
 -- the header first, and then a row for each part
 abbrev pub groups_of_records : Topology → List Fields → Result (List Group) GroupErr

@@ -1,4 +1,3 @@
 -- What no public clause rests on: who reads contracts alone need not read it.
-pub mod Runs
 pub mod Tables
 pub mod Verdict

@@ -36,14 +36,9 @@ pub struct InspectedElement {
 }
 
 /// Puts all elements, as they are in the millisecond of the last step.
-pub(crate) fn put_elements(
-    alloc: Global,
-    text: &mut Text,
-    net: &Net<'_>,
-    until: u64,
-) -> Result<(), NoMemory>
+pub(crate) fn put_elements(alloc: Global, text: &mut Text, net: &Net<'_>) -> Result<(), NoMemory>
     requires live { net.now.spent ≡ false }
-    ensures put { OnOk result ((all : List Event) → StandsFor net.now all (until + 1) →
+    ensures put { OnOk result ((all : List Event) (until : ℕ) → StandsFor net.now all (until + 1) →
         text.new ≡ text.old ++ elements_part net.now.plan all until) }
 {
     text.put(b"elements\n")?;

@@ -1,23 +1,20 @@
 //! The whole text.
 
-ghost use Rattle.std.specs.Prelude.{◌≡◌, ◌≤◌, ◌<◌, ◌+◌, suc, false, List, IfOk};
+ghost use Rattle.std.specs.Prelude.{◌≡◌, ◌≤◌, suc, false, List, IfOk};
 ghost use Rattle.sync_topo.specs.declared.event.Event.{Event};
 ghost use Rattle.sync_topo.specs.Events.{IsEventList};
 ghost use Rattle.event_times.specs.EventTimes.{AreTold, AreWithin};
 ghost use Rattle.sync_net.specs.Standing.{StandsFor};
 ghost use Rattle.inspection.specs.Inspection.{inspection};
-ghost use Rattle.inspection.specs.private.Runs.{HasCome};
 
 use crate::commands::put_commands;
 use crate::elements::put_elements;
 use crate::inputs::put_inputs;
-use event_sim::{Reach, Sim, Watch, events_until};
+use event_sim::{Watch, events_until, run_to};
 use std::alloc::Global;
-use std::marker::Brand;
-use std::sync::ledger::{Blank, Ledger};
 use sync_net::Net;
 use sync_ql::limits::LAST_MILLISECOND;
-use sync_text::{NoMemory, Steps, Text};
+use sync_text::{NoMemory, Text};
 use sync_topo::{Event, Plan};
 
 /// What a network of a plan is at in a millisecond, at most 86,400,000, by its events in order of
@@ -38,33 +35,8 @@ pub fn inspect(alloc: Global, plan: &Plan, events: &[Event], at: u64) -> Result<
     ensures text { IfOk result (λ text. text ≡ inspection plan.now events.now at) }
 {
     let told = events_until(events, at);
-    let sim = run_counted::<Brand>(alloc, plan, told, at, Blank::new(1))?;
+    let (sim, _) = run_to(alloc, plan, Watch::Nothing, events, at)?;
     text_of(alloc, sim.net(), told, at)
-}
-
-/// A simulator of a plan that was told the events up to a millisecond. Its steps are counted on a
-/// ledger.
-fn run_counted<'a, L: Ledger>(
-    alloc: Global,
-    plan: &'a Plan,
-    told: &[Event],
-    at: u64,
-    blank: Blank,
-) -> Result<Sim<'a>, NoMemory>
-    requires name { blank.name ≡ L.name }
-    requires parts { blank.parts ≡ L.parts }
-    requires some { 0 < blank.parts }
-    requires within { AreWithin plan.now 0 at told.now }
-    requires in_range { at ≤ LAST_MILLISECOND }
-    ensures run { IfOk result (λ sim. HasCome plan.now told.now at sim) }
-{
-    let mut steps = Steps::<L>::new(blank);
-    let mut sim = Sim::new(alloc, plan, Watch::Nothing)?;
-    let reach = sim.advance(told, at, &mut steps)?;
-    match reach {
-        Reach::Until => Ok(sim),
-        Reach::Stopped(_) => unreachable!(),
-    }
 }
 
 /// The text of a network after its last step, and of the events that it was told.
@@ -76,7 +48,7 @@ fn text_of(alloc: Global, net: &Net<'_>, told: &[Event], at: u64) -> Result<Text
 {
     let mut text = Text::new(alloc);
     put_commands(alloc, &mut text, net.plan(), told)?;
-    put_elements(alloc, &mut text, net, at)?;
+    put_elements(alloc, &mut text, net)?;
     put_inputs(alloc, &mut text, net, at)?;
     Ok(text)
 }

@@ -69,9 +69,11 @@ fn is_later(reached: Option<u64>, at: u64) -> bool
     }
 }
 
+/// Advances a simulator, which is told of the event, if there is one.
 fn go_on<L: Ledger>(
     rt: &impl Abort,
     sim: &mut Sim<'_>,
+    event: Option<Event>,
     until: u64,
     steps: &mut Steps<L>,
 ) -> Result<Reach, NoMemory> {
@@ -79,19 +81,9 @@ fn go_on<L: Ledger>(
     assert!(rt; !sim.spent());
     assert!(rt; !sim.stopped());
     assert!(rt; is_later(sim.reached(), until));
-    sim.advance(&[], until, steps)
-}
-
-fn tell<L: Ledger>(
-    rt: &impl Abort,
-    sim: &mut Sim<'_>,
-    event: Event,
-    until: u64,
-    steps: &mut Steps<L>,
-) -> Result<Reach, NoMemory> {
-    assert!(rt; until <= LAST_MILLISECOND);
-    assert!(rt; !sim.spent());
-    assert!(rt; !sim.stopped());
+    let Some(event) = event else {
+        return sim.advance(&[], until, steps);
+    };
     assert!(rt; sim.net().plan().fits(&event));
     assert!(rt; is_later(sim.reached(), event.at));
     assert!(rt; event.at <= until);
@@ -109,9 +101,9 @@ fn run_chain<L: Ledger>(
         at: 1000,
         what: What::Down(Part::Source(0)),
     };
-    assert!(rt; go_on(rt, sim, 15, steps)? == Reach::Until);
-    assert!(rt; go_on(rt, sim, 900, steps)? == Reach::Until);
-    assert!(rt; tell(rt, sim, down, 2000, steps)? == Reach::Until);
+    assert!(rt; go_on(rt, sim, None, 15, steps)? == Reach::Until);
+    assert!(rt; go_on(rt, sim, None, 900, steps)? == Reach::Until);
+    assert!(rt; go_on(rt, sim, Some(down), 2000, steps)? == Reach::Until);
     assert!(rt; sim.reached() == Some(2000));
     all_agree(rt, sim.changes(), rows);
     Ok(())

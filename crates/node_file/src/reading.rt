@@ -1,10 +1,8 @@
 //! One line: its row, or the rule that it breaks.
 
-ghost use Rattle.std.specs.Prelude.{◌≡◌, ℕ, true, false, ◌≤◌, ◌<◌, ◌/◌, ◌*◌, ◌==◌, IfOk, IfErr, IfSome, length, option_map, option_and_then, None, Some};
+ghost use Rattle.std.specs.Prelude.{◌≡◌, ℕ, true, false, ◌≤◌, ◌<◌, ◌/◌, ◌*◌, ◌==◌, IfOk, IfErr, IfSome, length, option_map, None, Some};
 ghost use Rattle.std.specs.Str.Lines.{strip_carriage_return};
-ghost use Rattle.sync_text.specs.Number.{number_of};
 ghost use Rattle.hex.specs.Hex.{decode_of};
-ghost use Rattle.event_file.specs.Rows.{in_time, last_time};
 ghost use Rattle.event_file.specs.Words.{what_of};
 ghost use Rattle.node_file.specs.NodeRow.{IsRowOf, IsWordOf};
 ghost use Rattle.node_file.specs.private.NodeRow.{IsOnLine};
@@ -21,10 +19,8 @@ use crate::row::{NodeRow, NodeWord};
 use crate::topic::{Topic, says_frame};
 use capture_text::cut_at;
 use esmc_frame::{Pdu, decode};
-use event_file::{Word, WordTarget};
-use sync_ql::limits::LAST_MILLISECOND;
+use event_file::{Word, WordTarget, time_of};
 use sync_ql::{Level, NetOption, level_of_codes};
-use sync_text::read_number;
 use sync_topo::{LineId, Plan};
 
 /// How many bytes a line may have before its line feed.
@@ -99,19 +95,6 @@ fn fields_of(line: &[u8]) -> Option<(&[u8], &[u8], &[u8], &[u8])>
     match rest {
         Some(_) => None,
         None => Some((at, word, target, value)),
-    }
-}
-
-/// The millisecond that some bytes name, if a row may stand there.
-fn time_of(bytes: &[u8]) -> Option<u64>
-    ensures time { result ≡ option_and_then in_time (number_of bytes.now) }
-    ensures within { IfSome result (λ at. at ≤ last_time) }
-{
-    let at = read_number(bytes)?;
-    if at <= LAST_MILLISECOND {
-        Some(at)
-    } else {
-        None
     }
 }
 

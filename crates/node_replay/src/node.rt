@@ -1,6 +1,6 @@
 //! One element of a plan, replayed on the bytes of a file.
 
-ghost use Rattle.std.specs.Prelude.{◌≡◌, ◌≤◌, ◌<◌, ◌+◌, ◌^◌, ◌++◌, ℕ, [], true, false, List, length, Err, IfOk, IfSome, OnOk, OnErr, MatchOption};
+ghost use Rattle.std.specs.Prelude.{◌≡◌, ◌≤◌, ◌<◌, ◌+◌, ◌^◌, ◌++◌, ℕ, [], true, false, List, length, Err, IfOk, IfSome, OnOk, OnErr};
 ghost use Rattle.sync_text.specs.Gives.{IfRefused};
 ghost use Rattle.sync_topo.specs.WellFormed.{IsWellFormed};
 ghost use Rattle.node_file.specs.NodeFile.{rows_of};
@@ -164,46 +164,14 @@ fn take_all(
 {
     let mut left = Some(piece);
     while let Some(bytes) = left {
-        match take_line(lines, replay, bytes) {
-            Ok(rest) => left = rest,
+        let (row, rest) = match lines.take(bytes) {
+            Ok(taken) => taken,
             Err(error) => return Err(error),
-        }
+        };
+        take_row(replay, row)?;
+        left = rest;
     }
     Ok(())
-}
-
-/// Takes the bytes of a piece up to and with its first line feed, and the row of the line that ends
-/// there. The bytes behind it, if it has one.
-fn take_line<'b>(
-    lines: &mut NodeLines<'_>,
-    replay: &mut Replay<'_>,
-    piece: &'b [u8],
-) -> Result<Option<&'b [u8]>, NoAnswer<NodeErr>>
-    requires same_plan { replay.old.plan ≡ lines.old.plan }
-    requires same_element { replay.old.element ≡ lines.old.element }
-    requires live { replay.old.spent ≡ false }
-    requires room { lines.old.ended + length piece.now < 2 ^ 63 }
-    ensures plan { lines.new.plan ≡ lines.old.plan }
-    ensures element { lines.new.element ≡ lines.old.element }
-    ensures replay_plan { replay.new.plan ≡ replay.old.plan }
-    ensures replay_element { replay.new.element ≡ replay.old.element }
-    ensures until { replay.new.until ≡ replay.old.until }
-    ensures live { OnOk result (replay.new.spent ≡ false) }
-    ensures ended { IfOk result (λ rest. MatchOption rest (lines.new.ended ≡ lines.old.ended)
-        (λ left. lines.new.ended ≡ lines.old.ended + 1)) }
-    ensures shorter { IfOk result (λ rest. IfSome rest (λ left. length left.now < length piece.now)) }
-    ensures fed { IfOk result (λ rest. (bytes : List ℕ) → AreFed lines.old replay.old bytes →
-        MatchOption rest (AreFed lines.new replay.new (bytes ++ piece.now))
-        (λ left. (front : List ℕ) × (piece.now ≡ front ++ left.now) × AreFed lines.new replay.new (bytes ++ front))) }
-    ensures refused { IfRefused result (λ error. (bytes : List ℕ) →
-        AreFed lines.old replay.old bytes → AreRefused lines.old.plan lines.old.element (bytes ++ piece.now) error) }
-{
-    let (row, rest) = match lines.take(piece) {
-        Ok(taken) => taken,
-        Err(error) => return Err(error),
-    };
-    take_row(replay, row)?;
-    Ok(rest)
 }
 
 /// Takes a row, if there is one.

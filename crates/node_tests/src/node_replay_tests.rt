@@ -38,15 +38,10 @@ fn fed(
     let mut left = bytes;
     while !left.is_empty() {
         let (piece, rest) = left.split_at(left.len().min(size.max(1)));
-        if let Err(error) = node.feed(piece) {
-            return Err(error);
-        }
+        node.feed(piece)?;
         left = rest;
     }
-    match node.finish() {
-        Ok(replayed) => Ok(replayed),
-        Err(error) => Err(error),
-    }
+    node.finish()
 }
 
 /// The bytes of a file are taken up to its last piece, of this size, and that one is refused.

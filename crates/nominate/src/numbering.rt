@@ -9,6 +9,7 @@ use crate::facts::is_one_less;
 use crate::hops::Hops;
 use crate::search::is_source;
 use std::alloc::Global;
+use sync_ql::limits::MOST_INPUTS;
 use sync_text::NoMemory;
 use sync_topo::{InputId, LineId, Plan};
 
@@ -142,7 +143,9 @@ fn numbered_priority(plan: &Plan, element: u32, number: u32) -> u8
     ensures { result ≡ numbered_priority plan.now element number }
 {
     let priority = u32::from(base_priority(plan, element)) + number;
-    if priority <= u32::from(u8::MAX) && number + source_count(plan, element) <= 64 {
+    if priority <= u32::from(u8::MAX)
+        && number + source_count(plan, element) <= MOST_INPUTS as u32
+    {
         priority as u8
     } else {
         0
@@ -176,7 +179,7 @@ fn own_priority(plan: &Plan, input: InputId) -> u8
 fn source_count(plan: &Plan, element: u32) -> u32
     requires { element < length plan.now.elements }
     ensures count { result ≡ length (sources_at plan.now element) }
-    ensures few { result ≤ 64 }
+    ensures few { result ≤ MOST_INPUTS }
 {
     let mut count = 0;
     for input in plan.inputs(element) {

@@ -30,10 +30,7 @@ fn lines_from(alloc: Global, plan: &Plan, hops: &Hops) -> Result<Vec<Option<Line
 fn no_lines(alloc: Global, plan: &Plan) -> Result<Vec<Option<LineId>>, NoMemory>
     ensures { IfOk result (λ lines. lines.items ≡ replicate (length plan.now.elements) None) }
 {
-    match vec![in alloc; None; plan.elements() as usize] {
-        Ok(lines) => Ok(lines),
-        Err(_) => Err(NoMemory),
-    }
+    Ok(vec![in alloc; None; plan.elements() as usize]?)
 }
 
 /// Keeps the line for the element where it ends, if it is the first from one with one less.

@@ -2,7 +2,7 @@
 
 ghost use Rattle.std.specs.Prelude.{◌≡◌, ◌++◌, ◌<◌, length, IfSome, OnOk};
 ghost use Rattle.sync_topo.specs.Lines.{IsInput};
-ghost use Rattle.prio_mode.specs.PriorityRows.{change_row, row_between};
+ghost use Rattle.prio_mode.specs.PriorityRows.{row_between};
 
 use crate::shown::{Shown, shows_other};
 use shown_words::{put_choice, state_column};
@@ -27,22 +27,6 @@ pub(crate) fn put_if_other(
     if !shows_other(was, shown) {
         return Ok(());
     }
-    put_change(alloc, text, plan, now, element, shown)
-}
-
-/// Puts one change.
-fn put_change(
-    alloc: Global,
-    text: &mut Text,
-    plan: &Plan,
-    now: u64,
-    element: u32,
-    shown: Shown,
-) -> Result<(), NoMemory>
-    requires within { element < length plan.now.elements }
-    requires input { IfSome shown.input (IsInput plan.now) }
-    ensures put { OnOk result (text.new ≡ text.old ++ change_row plan.now now element shown) }
-{
     text.put_number(now)?;
     text.put(b",")?;
     put_choice(alloc, text, plan, element, shown.mode, shown.input)?;

@@ -1,4 +1,5 @@
 -- What no public clause rests on: who reads contracts alone need not read it.
+pub mod Kinds
 pub mod OrderlyExamples
 pub mod Parts
 pub mod Searched

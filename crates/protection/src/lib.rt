@@ -23,6 +23,7 @@ mod fewest;
 mod gap;
 mod gone;
 mod guarding;
+mod kind;
 mod marks;
 mod orderly;
 mod parts;

@@ -1,7 +1,7 @@
 // Whether a plan is orderly: what of a search's plan is tried.
 
-ghost use Rattle.std.specs.Prelude.{◌≡◌, ◌<◌, ◌⊎◌, ℕ, true, nat_le, length, IsTrue, IfOk};
-ghost use Rattle.sync_topo.specs.Lines.{line_count, sender_of, receiver_of, priority_of, input_priority, IsNominated, IsInput};
+ghost use Rattle.std.specs.Prelude.{◌≡◌, ◌<◌, ◌⊎◌, ℕ, true, length, IsTrue, IfOk};
+ghost use Rattle.sync_topo.specs.Lines.{line_count, sender_of, receiver_of, IsNominated, IsInput};
 ghost use Rattle.sync_topo.specs.Bundles.{line_bundle};
 ghost use Rattle.sync_topo.specs.Hops.{IsRising};
 ghost use Rattle.reach_rules.specs.Agreement.{IsAgreedBound};
@@ -109,12 +109,7 @@ fn stands_apart(plan: &Plan, line: LineId) -> bool
     ensures { result ≡ stands_apart plan.now line.0 }
 {
     let inputs = plan.inputs(plan.to(line));
-    for input in inputs {
-        if !is_apart(plan, line, *input) {
-            return false;
-        }
-    }
-    true
+    inputs.iter().all(|input| is_apart(plan, line, *input))
 }
 
 /// The input is the line, or it has another number; a source's is smaller.
@@ -160,22 +155,9 @@ fn is_first_choice(plan: &Plan, line: LineId) -> bool
     requires { line.0 < line_count plan.now }
     ensures { result ≡ is_first_choice plan.now line.0 }
 {
+    let priority = plan.priority(InputId::Line(line));
     let inputs = plan.inputs(plan.to(line));
-    for input in inputs {
-        if !is_no_smaller(plan, line, *input) {
-            return false;
-        }
-    }
-    true
-}
-
-/// The input's number is no smaller than the line's.
-fn is_no_smaller(plan: &Plan, line: LineId, input: InputId) -> bool
-    requires line { line.0 < line_count plan.now }
-    requires input { IsInput plan.now input }
-    ensures { result ≡ nat_le (priority_of plan.now line.0) (input_priority plan.now input) }
-{
-    plan.priority(InputId::Line(line)) <= plan.priority(input)
+    inputs.iter().all(|input| priority <= plan.priority(*input))
 }
 
 /// Ranks rise: no lines hop round in a cycle.

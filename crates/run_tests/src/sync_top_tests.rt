@@ -12,6 +12,8 @@ use test_makers::{CHAIN, PAIR, SOURCED_CHAIN, numbers};
 
 const RISING: &[u8] = b"line,rank\nL1>B,0\nL2>C,1\n";
 
+const NO_EVENTS: &[u8] = b"at,what,target,value\n";
+
 /// Where the outside fails, and how much of it there is.
 #[derive(Clone, Copy)]
 struct Outside {
@@ -43,14 +45,13 @@ fn words(alloc: Global, words: &[&str]) -> Result<Vec<String>, AllocError> {
     Ok(all)
 }
 
-/// Runs the words over the files `plan` and `cert`, and compares the status and what was written.
-fn answers(
-    rt: &(impl Abort + AllocGlobal + Threads + Sync),
+/// Runs the words over the files `plan` and `cert`, and gives the status and what was written.
+fn answer(
+    rt: &(impl AllocGlobal + Threads + Sync),
     line: &[&str],
     files: (&[u8], &[u8]),
     outside: Outside,
-    want: (Status, &[u8]),
-) -> Result<(), Fail> {
+) -> Result<(Status, Text), Fail> {
     let alloc = rt.alloc();
     let mut kept = Rows::new(alloc);
     kept.push(file(alloc, b"plan", files.0)?)?;
@@ -67,7 +68,19 @@ fn answers(
         &mut sink,
         &FreeGate,
     );
-    assert!(rt; (status, sink.bytes()) == want);
+    Ok((status, Text::from_bytes(alloc, sink.bytes())?))
+}
+
+/// Runs the words over the files, and compares the status and what was written.
+fn answers(
+    rt: &(impl Abort + AllocGlobal + Threads + Sync),
+    line: &[&str],
+    files: (&[u8], &[u8]),
+    outside: Outside,
+    want: (Status, &[u8]),
+) -> Result<(), Fail> {
+    let (status, text) = answer(rt, line, files, outside)?;
+    assert!(rt; (status, text.bytes()) == want);
     Ok(())
 }
 
@@ -139,31 +152,19 @@ fn a_front_of_the_report_is_written_where_the_output_fails(rt: HostRuntime) -> R
     };
     let want: (Status, &[u8]) = (Status::WriteFault, b"changes\n0,A,auto");
     let line: &[&str] = &["sim", "plan", "cert", "100"];
-    let events: &[u8] = b"at,what,target,value\n";
-    answers(&rt, line, (SOURCED_CHAIN, events), outside, want)
+    answers(&rt, line, (SOURCED_CHAIN, NO_EVENTS), outside, want)
 }
 
 /// Runs a swinging pair to the last millisecond there is over an output of so much room, and gives
 /// the status and what was written.
 fn swings(rt: &(impl AllocGlobal + Threads + Sync), room: usize) -> Result<(Status, Text), Fail> {
-    let alloc = rt.alloc();
-    let mut files = Rows::new(alloc);
-    files.push(file(alloc, b"plan", PAIR)?)?;
-    files.push(file(alloc, b"cert", b"at,what,target,value\n")?)?;
-    let mut folder = MemFolder::new(files, 65_536, Rows::new(alloc));
-    let mut sink = MemSink::new(alloc, room, 1000, Rows::new(alloc))?;
-    let line = words(alloc, &["sim", "plan", "cert", "86400000"])?;
-    let status = run(
-        rt,
-        alloc,
-        line.as_slice(),
-        &mut folder,
-        &mut sink,
-        &FreeGate,
-    );
-    let mut text = Text::new(alloc);
-    text.put(sink.bytes())?;
-    Ok((status, text))
+    let line: &[&str] = &["sim", "plan", "cert", "86400000"];
+    let outside = Outside {
+        room,
+        piece: 1000,
+        ..CALM
+    };
+    answer(rt, line, (PAIR, NO_EVENTS), outside)
 }
 
 #[test]

@@ -12,15 +12,11 @@
 #![tactic(auto)]
 
 mod lines;
-mod looping;
 mod settling;
 mod taken;
 mod tracing;
-mod tracings;
 
 pub use closed_walks::{End, Ending, Traced, Walk};
-pub use looping::loops;
 pub use settling::settled;
 pub use taken::{taken_input, taken_inputs};
-pub use tracing::trace;
-pub use tracings::traces;
+pub use tracing::{loops, trace, traces};

@@ -1,23 +1,28 @@
-//! The trace of one element.
+//! The traces of elements, and the closed walks that stand.
 
-ghost use Rattle.std.specs.Prelude.{◌≡◌, ◌<◌, ℕ, false, List, length, IfOk};
+ghost use Rattle.std.specs.Prelude.{◌≡◌, ◌<◌, ℕ, false, List, length, map, slice_get, Some, IfOk};
+ghost use Rattle.std.specs.List.{All};
+ghost use Rattle.sync_text.specs.Each.{Each};
 ghost use Rattle.sync_topo.specs.declared.event.Event.{Event};
 ghost use Rattle.sync_topo.specs.Hops.{IsRising};
+ghost use Rattle.sync_topo.specs.Lines.{numbers};
+ghost use Rattle.sync_topo.specs.WellFormed.{IsWellFormed};
 ghost use Rattle.net_rules.specs.History.{level_at};
 ghost use Rattle.net_rules.specs.Safety.{IsEndLevel};
-ghost use Rattle.net_rules.specs.Walks.{IsTrace};
+ghost use Rattle.net_rules.specs.Walks.{IsFacingPair, IsTrace};
 ghost use Rattle.sync_net.specs.Standing.{StandsFor};
-ghost use Rattle.settle_trace.specs.Now.{now_of, signals_of, out_of, taken_now, IsSettledNow};
-ghost use Rattle.sync_topo.specs.WellFormed.{IsWellFormed};
+ghost use Rattle.closed_walks.specs.declared.traced.Ending.{Ending};
+ghost use Rattle.closed_walks.specs.Loops.{AreLoops};
 ghost use Rattle.closed_walks.specs.Taking.{taken_in_list, AreTaken};
-ghost use Rattle.sync_topo.specs.Lines.{numbers};
-ghost use Rattle.closed_walks.specs.Traces.{end_of};
+ghost use Rattle.closed_walks.specs.Traces.{end_of, EndsSo};
+ghost use Rattle.closed_walks.specs.Within.{AreLinesOf, IsEndOf};
+ghost use Rattle.settle_trace.specs.Now.{now_of, signals_of, out_of, taken_now, IsSettledNow};
 
 use crate::taken::taken_inputs;
-use closed_walks::{Traced, follow, no_marks};
+use closed_walks::{Ending, Traced, Walk, endings_of, follow, no_marks, walks_of};
 use std::alloc::Global;
 use sync_net::Net;
-use sync_text::NoMemory;
+use sync_text::{NoMemory, Rows};
 use sync_topo::{InputId, Plan};
 
 /// The trace of an element in the millisecond of the network's last step: what is taken, followed
@@ -65,4 +70,46 @@ fn trace_in(
         lines: way.lines,
         end: way.end,
     })
+}
+
+/// How the trace of each element ends in the millisecond of the network's last step, in the order of
+/// the elements: of how many lines it is, and where it ends.
+///
+/// The network isn't spent, and has stepped. It takes time by the number of elements and lines of the
+/// plan, however long the traces are. `NoMemory` comes only when out of memory. This project's own.
+pub fn traces(alloc: Global, net: &Net<'_>) -> Result<Rows<Ending>, NoMemory>
+    requires live { net.now.spent ≡ false }
+    requires stepped { 0 < net.now.next }
+    ensures count { IfOk result (λ endings. length endings ≡ length net.now.plan.elements) }
+    ensures exact { IfOk result (λ endings. (all : List Event) → StandsFor net.now all net.now.next →
+        (element : ℕ) (ending : Ending) → slice_get endings element ≡ Some ending →
+        EndsSo net.now.plan (taken_now net.now all) element ending) }
+    ensures of_plan { IfOk result (All (IsEndOf net.now.plan)) }
+{
+    let taken = taken_inputs(alloc, net)?;
+    endings_of(alloc, net.plan(), taken.as_slice())
+}
+
+/// The closed walks in the millisecond of the network's last step: each once, from its lowest line,
+/// in the order of these.
+///
+/// The network isn't spent, and has stepped. It takes time by the number of elements and lines of the
+/// plan. `NoMemory` comes only when out of memory. After G.781 and G.803, that timing must not go
+/// round; the order is this project's own.
+pub fn loops(alloc: Global, net: &Net<'_>) -> Result<Rows<Walk>, NoMemory>
+    requires live { net.now.spent ≡ false }
+    requires stepped { 0 < net.now.next }
+    ensures exact { IfOk result (λ walks. (all : List Event) → StandsFor net.now all net.now.next →
+        AreLoops net.now.plan (taken_now net.now all) (map numbers walks)) }
+    ensures of_plan { IfOk result (All (AreLinesOf net.now.plan)) }
+
+    // Where ranks rise, each is two elements that face each other on one link or bundle.
+    ensures facing { IfOk result (λ walks. (all : List Event) (rank : ℕ → ℕ) →
+        StandsFor net.now all net.now.next → IsRising net.now.plan rank →
+        Each (IsFacingPair net.now.plan) (map numbers walks)) }
+{
+    net_rules::history_law();
+    net_rules::rising_law();
+    let taken = taken_inputs(alloc, net)?;
+    walks_of(alloc, net.plan(), taken.as_slice())
 }

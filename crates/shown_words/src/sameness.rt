@@ -1,11 +1,10 @@
 //! Whether two elements show the same.
 
 ghost use Rattle.std.specs.Prelude.{◌≡◌};
-ghost use Rattle.sync_topo.specs.Lines.{is_same_input};
 ghost use Rattle.shown_words.specs.Sameness.{is_same_mode, is_same_state, is_same_taken};
 
 use sync_ql::rules::{ClockState, Mode};
-use sync_topo::{InputId, is_same_input};
+use sync_topo::InputId;
 
 /// Whether two modes are the same.
 ///
@@ -13,12 +12,7 @@ use sync_topo::{InputId, is_same_input};
 pub fn is_same_mode(one: Mode, other: Mode) -> bool
     ensures { result ≡ is_same_mode one other }
 {
-    match (one, other) {
-        (Mode::Auto, Mode::Auto) => true,
-        (Mode::Forced, Mode::Forced) => true,
-        (Mode::Manual, Mode::Manual) => true,
-        _ => false,
-    }
+    one == other
 }
 
 /// Whether two states of a clock are the same.
@@ -27,12 +21,7 @@ pub fn is_same_mode(one: Mode, other: Mode) -> bool
 pub fn is_same_state(one: ClockState, other: ClockState) -> bool
     ensures { result ≡ is_same_state one other }
 {
-    match (one, other) {
-        (ClockState::FreeRun, ClockState::FreeRun) => true,
-        (ClockState::Locked, ClockState::Locked) => true,
-        (ClockState::Holdover, ClockState::Holdover) => true,
-        _ => false,
-    }
+    one == other
 }
 
 /// Whether two elements take inputs that are the same, or both take none.
@@ -41,9 +30,5 @@ pub fn is_same_state(one: ClockState, other: ClockState) -> bool
 pub fn is_same_taken(one: Option<InputId>, other: Option<InputId>) -> bool
     ensures { result ≡ is_same_taken one other }
 {
-    match (one, other) {
-        (Some(one), Some(other)) => is_same_input(one, other),
-        (None, None) => true,
-        _ => false,
-    }
+    one == other
 }

@@ -13,8 +13,6 @@ pub mod Merging
 pub mod CaseLemmas
 pub mod ShiftLemmas
 pub mod EarlierLemmas
-pub mod TimingLemmas
-pub mod EndsLemmas
 pub mod TimedLemmas
 pub mod WorkLemmas
 pub mod RowLemmas

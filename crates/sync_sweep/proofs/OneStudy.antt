@@ -10,12 +10,12 @@ use Rattle.closed_walks.specs.declared.traced.Ending.{Ending}
 use Rattle.closed_walks.proofs.OneEndings.{one-endings}
 use Rattle.sync_sweep.specs.declared.on_way.OnWay.{OnWay}
 use Rattle.sync_sweep.specs.declared.studying.StudyRow.{StudyRow}
-use Rattle.sync_sweep.specs.declared.timings.Timing.{Timing}
+use Rattle.timings.specs.declared.counted.Timing.{Timing}
 use Rattle.sync_sweep.specs.Cases.{merged}
 use Rattle.sync_sweep.specs.OnWay.{before_own, worse_for, IsWorseFor, IsOnWay}
 use Rattle.sync_sweep.specs.Outcomes.{taken_by}
 use Rattle.sync_sweep.specs.Study.{IsStudyRow, AreStudyRows}
-use Rattle.sync_sweep.specs.Timing.{IsCounted, IsLengthIn, IsTiming}
+use Rattle.timings.specs.Timing.{IsCounted, IsLengthIn, IsTiming}
 use Rattle.sync_sweep.proofs.OneOutcome.{one-outcome, one-greatest}
 
 -- traces are counted in one way

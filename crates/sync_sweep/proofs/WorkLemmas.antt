@@ -1,6 +1,5 @@
 -- A case on a branch.
-use Rattle.std.proofs.Common.{◌≡◌, ◌≤◌, ◌<◌, ℕ, List, [], ◌∷◌, ◌++◌, length, ◌+◌, ◌-◌, Option, None, Some, inl, inr, ap, sym, subst, ◌∙◌, arith}
-use Rattle.std.specs.Prelude.{IfSome}
+use Rattle.std.proofs.Common.{◌≡◌, ◌≤◌, ◌<◌, ℕ, List, [], ◌∷◌, ◌++◌, length, ◌+◌, ◌-◌, inl, inr, ap, sym, subst, ◌∙◌, arith}
 use Rattle.std.specs.List.{All}
 use Rattle.std.proofs.lemmas.List.{append-nil}
 use Rattle.std.proofs.lemmas.Option.{slice_get_cases}
@@ -20,16 +19,9 @@ use Rattle.event_times.specs.EventTimes.{AreTold}
 use Rattle.event_times.proofs.EventTimes.{none-at}
 use Rattle.sync_net.specs.NetState.{NetState}
 use Rattle.sync_net.specs.Standing.{StandsFor}
-use Rattle.settle_trace.specs.Now.{taken_now}
 use Rattle.sync_topo.specs.declared.event.Case.{Case}
 use Rattle.sync_sweep.specs.private.Base.{AreCommonBefore}
 use Rattle.sync_sweep.specs.Cases.{merged}
-use Rattle.sync_sweep.specs.declared.timings.Timing.{Timing}
-use Rattle.sync_sweep.specs.declared.timed.Timed.{Timed}
-use Rattle.sync_sweep.specs.private.ShownNow.{AreAlikeBut}
-use Rattle.sync_sweep.specs.private.Timed.{IsTimed}
-use Rattle.sync_sweep.specs.Outcomes.{taken_by}
-use Rattle.sync_sweep.specs.Timing.{IsTiming}
 use Rattle.sync_sweep.proofs.CountLemmas.{some-element}
 use Rattle.event_times.proofs.Ascending.{ascend}
 use Rattle.sync_sweep.proofs.Merging.{at-merged, merged-list}
@@ -54,17 +46,6 @@ pub stood : (base branch after : NetState) (common told all : List Event) (from 
 stood base branch after common told all from until same stands run before are =
     run all (subst (λ (n : NetState). AreTold n.plan all from until told) (sym same) are)
     (subst (λ (n : NetState). StandsFor n all from) (sym same) (stands all before))
-
--- its timing is that of the run
-pub timing-by : (base net : NetState) (plan : Topology) (all : List Event) (until : ℕ) (timed : Option Timed) (places : List ℕ) (timing : Option Timing) → net.plan ≡ plan
-    → base.plan ≡ net.plan → net.next - 1 ≡ until → StandsFor net all net.next → IfSome timed (IsTimed base) → AreAlikeBut places net base
-    → IfSome timing (λ some. (base : NetState) (all : List Event) → base.plan ≡ net.plan → IfSome timed (IsTimed base) → AreAlikeBut places net base
-    → StandsFor net all net.next → IsTiming net.plan (taken_now net all) some)
-    → IfSome timing (IsTiming plan (taken_by plan all until))
-timing-by base net plan all until timed places None same of_base now stands is_timed alike is = tt
-timing-by base net plan all until timed places (Some timing) same of_base now stands is_timed alike is =
-    subst (λ (p : Topology). IsTiming p (taken_by p all until) timing) same
-    (subst (λ t. IsTiming net.plan (taken_by net.plan all t) timing) now (is base all of_base is_timed alike stands))
 
 -- a plan to which something happens has elements
 some-source : (plan : Topology) (source : ℕ) → IsWellFormed plan → source < length plan.sources → 0 < length plan.elements

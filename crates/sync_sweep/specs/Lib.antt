@@ -2,7 +2,6 @@ pub mod Cases
 pub mod Outcomes
 pub mod Sweep
 pub mod SweepText
-pub mod Timing
 pub mod OnWay
 pub mod Study
 pub mod StudyText

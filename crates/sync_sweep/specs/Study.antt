@@ -8,7 +8,7 @@ use Rattle.sync_sweep.specs.declared.studying.StudyRow.{StudyRow}
 use Rattle.sync_sweep.specs.Cases.{merged}
 use Rattle.sync_sweep.specs.OnWay.{before_own, IsOnWay}
 use Rattle.sync_sweep.specs.Outcomes.{IsOutcome, taken_by}
-use Rattle.sync_sweep.specs.Timing.{IsTiming}
+use Rattle.timings.specs.Timing.{IsTiming}
 
 -- the row of a run with the common events and those of a case, at the end of a millisecond; what the
 -- case costs on the way is counted after the millisecond before the first of its own events

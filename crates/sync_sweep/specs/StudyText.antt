@@ -6,7 +6,7 @@ use Rattle.sync_topo.specs.declared.element.Element.{Element}
 use Rattle.sync_topo.specs.Topology.{Topology}
 use Rattle.sync_sweep.specs.declared.on_way.OnWay.{OnWay}
 use Rattle.sync_sweep.specs.declared.studying.StudyRow.{StudyRow}
-use Rattle.sync_sweep.specs.declared.timings.Timing.{Timing}
+use Rattle.timings.specs.declared.counted.Timing.{Timing}
 use Rattle.sync_sweep.specs.SweepText.{results_text}
 
 -- the name of an element, or nothing

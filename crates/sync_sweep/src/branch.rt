@@ -7,6 +7,7 @@ ghost use Rattle.sync_net.specs.NetState.{NetState, IsInTime};
 ghost use Rattle.event_times.specs.EventTimes.{AreTold, AreWithin};
 ghost use Rattle.sync_net.specs.Standing.{StandsFor};
 ghost use Rattle.sync_net.specs.Evaluated.{IsContinued};
+ghost use Rattle.sync_sweep.specs.private.AtBase.{IsAtBase};
 ghost use Rattle.sync_sweep.specs.private.Branching.{IsBranch, AreMarksOf};
 ghost use Rattle.sync_sweep.specs.private.ShownNow.{AreShown};
 ghost use Rattle.sync_sweep.specs.private.Spells.{AreNone, AreNoneUnmarked, AreNotedAt, AreWorseNow, AreCountedSo};
@@ -51,11 +52,7 @@ impl<'a> Drop for Branch<'a> {
 /// A network that goes on from another, of which nothing is touched.
 pub(crate) fn new_branch<'a>(alloc: Global, base: &'a Net<'_>) -> Result<Branch<'a>, NoMemory>
     requires live { base.now.spent ≡ false }
-    ensures branch { IfOk result (λ branch. IsBranch base.now branch.net branch.touched) }
-    ensures net { IfOk result (λ branch. branch.net ≡ base.now) }
-    ensures shown { IfOk result (λ branch. AreShown base.now branch.shown) }
-    ensures spells { IfOk result (λ branch.
-        AreNone (length base.now.plan.elements) branch.spells.items) }
+    ensures { IfOk result (IsAtBase base.now) }
 {
     let touched = none_touched(alloc, base.plan())?;
     let shown = all_shown(alloc, base)?;
@@ -194,10 +191,8 @@ pub(crate) fn go_back(
     requires base_live { base.now.spent ≡ false }
     requires branch { IsBranch base.now branch.old.net branch.old.touched }
     requires shown { AreShown branch.old.net branch.old.shown }
-    ensures branch { OnOk result (IsBranch base.now branch.new.net branch.new.touched) }
-    ensures net { OnOk result (branch.new.net ≡ base.now) }
-    ensures shown { OnOk result (AreShown base.now branch.new.shown) }
-    ensures spells { branch.new.spells ≡ branch.old.spells }
+    requires spells { AreNone (length base.now.plan.elements) branch.old.spells.items }
+    ensures { OnOk result (IsAtBase base.now branch.new) }
 {
     branch.net.return_to(
         alloc,

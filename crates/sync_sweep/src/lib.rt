@@ -15,11 +15,11 @@
 mod branch;
 mod cases;
 mod chunks;
+mod common;
 mod counted_levels;
 mod counted_states;
 mod counting;
 mod crossing;
-mod ends;
 mod gate;
 mod laws;
 mod on_way;
@@ -33,7 +33,7 @@ mod studying;
 mod sweeping;
 mod table;
 mod timed;
-mod timings;
+mod timer;
 mod touched;
 mod working;
 

@@ -1,14 +1,11 @@
 //! The run of one case on a branch, and what it costs on the way.
 
-ghost use Rattle.std.specs.Prelude.{◌≡◌, ◌≤◌, ◌<◌, ◌+◌, ◌-◌, ℕ, false, List, length, IfOk, OnOk};
+ghost use Rattle.std.specs.Prelude.{◌≤◌, ◌<◌, ◌+◌, ◌-◌, List, IfOk, OnOk};
 ghost use Rattle.sync_topo.specs.declared.event.Event.{Event};
 ghost use Rattle.event_times.specs.EventTimes.{AreTold, AreWithin};
-ghost use Rattle.sync_net.specs.NetState.{NetState};
 ghost use Rattle.sync_net.specs.Standing.{StandsFor};
 ghost use Rattle.sync_sweep.specs.OnWay.{IsOnWay};
-ghost use Rattle.sync_sweep.specs.private.Branching.{IsBranch, AreMarksOf};
-ghost use Rattle.sync_sweep.specs.private.ShownNow.{AreShown};
-ghost use Rattle.sync_sweep.specs.private.Spells.{AreNone};
+ghost use Rattle.sync_sweep.specs.private.AtBase.{CanRun, HasRun};
 
 use crate::branch::{Branch, run_events, show};
 use crate::cases::events_from;
@@ -23,26 +20,11 @@ use sync_topo::Event;
 
 /// The network runs on to the end of a millisecond, and what it shows then is renewed.
 fn run_to(branch: &mut Branch<'_>, from: u64, told: &[Event], until: u64) -> Result<OnWay, NoMemory>
-    requires live { branch.old.net.spent ≡ false }
-    requires from { branch.old.net.next ≡ from }
+    requires branch { CanRun from branch.old }
     requires before { from ≤ until + 1 }
     requires in_range { until ≤ LAST_MILLISECOND }
     requires events { AreWithin branch.old.net.plan from until told.now }
-    requires marks { AreMarksOf branch.old.net.plan branch.old.touched }
-    requires shown { AreShown branch.old.net branch.old.shown }
-    requires elements { 0 < length branch.old.net.plan.elements }
-    requires spells { AreNone (length branch.old.net.plan.elements) branch.old.spells.items }
-    ensures plan { branch.new.net.plan ≡ branch.old.net.plan }
-    ensures live { OnOk result (branch.new.net.spent ≡ false) }
-    ensures next { OnOk result (branch.new.net.next ≡ until + 1) }
-    ensures stands { OnOk result ((all : List Event) →
-        AreTold branch.old.net.plan all from until told.now →
-        StandsFor branch.old.net all from → StandsFor branch.new.net all (until + 1)) }
-    ensures branch { OnOk result ((base : NetState) →
-        IsBranch base branch.old.net branch.old.touched →
-        IsBranch base branch.new.net branch.new.touched) }
-    ensures shown { OnOk result (AreShown branch.new.net branch.new.shown) }
-    ensures spells { OnOk result (AreNone (length branch.old.net.plan.elements) branch.new.spells.items) }
+    ensures run { OnOk result (HasRun told.now from until branch.old branch.new) }
     ensures way { IfOk result (λ way. (all : List Event) → 0 < from →
         AreTold branch.old.net.plan all from until told.now → StandsFor branch.old.net all from →
         IsOnWay branch.old.net.plan all (from - 1) until way) }
@@ -69,27 +51,12 @@ pub(crate) fn run_case(
     before: u64,
     until: u64,
 ) -> Result<OnWay, NoMemory>
-    requires live { branch.old.net.spent ≡ false }
-    requires from { branch.old.net.next ≡ from }
+    requires branch { CanRun from branch.old }
     requires before { from ≤ before + 1 }
     requires in_order { before ≤ until }
     requires in_range { until ≤ LAST_MILLISECOND }
     requires events { AreWithin branch.old.net.plan from until told.now }
-    requires marks { AreMarksOf branch.old.net.plan branch.old.touched }
-    requires shown { AreShown branch.old.net branch.old.shown }
-    requires elements { 0 < length branch.old.net.plan.elements }
-    requires spells { AreNone (length branch.old.net.plan.elements) branch.old.spells.items }
-    ensures plan { branch.new.net.plan ≡ branch.old.net.plan }
-    ensures live { OnOk result (branch.new.net.spent ≡ false) }
-    ensures next { OnOk result (branch.new.net.next ≡ until + 1) }
-    ensures stands { OnOk result ((all : List Event) →
-        AreTold branch.old.net.plan all from until told.now →
-        StandsFor branch.old.net all from → StandsFor branch.new.net all (until + 1)) }
-    ensures branch { OnOk result ((base : NetState) →
-        IsBranch base branch.old.net branch.old.touched →
-        IsBranch base branch.new.net branch.new.touched) }
-    ensures shown { OnOk result (AreShown branch.new.net branch.new.shown) }
-    ensures spells { OnOk result (AreNone (length branch.old.net.plan.elements) branch.new.spells.items) }
+    ensures run { OnOk result (HasRun told.now from until branch.old branch.new) }
     ensures way { IfOk result (λ way. (all : List Event) →
         AreTold branch.old.net.plan all from until told.now → StandsFor branch.old.net all from →
         IsOnWay branch.old.net.plan all before until way) }

@@ -8,10 +8,10 @@ ghost use Rattle.sync_sweep.specs.StudyText.{case_text, first_word, study_text, 
 use crate::on_way::OnWay;
 use crate::studying::StudyRow;
 use crate::table::put_results;
-use crate::timings::Timing;
 use std::alloc::Global;
 use sync_text::{NoMemory, Text};
 use sync_topo::Plan;
+use timings::Timing;
 
 /// The rows of a study over a plan, as text: a head, and then a row for each case with its name, what
 /// a row of a sweep says of a network, how many elements have no timing from a source, the name of the

@@ -1,6 +1,6 @@
 //! A study: what becomes of a network in some cases.
 
-ghost use Rattle.std.specs.Prelude.{◌≡◌, ◌≤◌, ◌<◌, true, length, is_some, IfOk, IfSome};
+ghost use Rattle.std.specs.Prelude.{◌≡◌, ◌≤◌, ◌<◌, true, length, IfOk, IfSome};
 ghost use Rattle.std.specs.List.{All, AllZip};
 ghost use Rattle.sync_topo.specs.Events.{IsCase, IsEventList};
 ghost use Rattle.sync_sweep.specs.private.Rows.{IsStudyRowOf};
@@ -10,13 +10,14 @@ use crate::gate::Gate;
 use crate::on_way::OnWay;
 use crate::outcomes::Outcome;
 use crate::sweeping::work_all;
-use crate::timings::Timing;
+use crate::timed::Timed;
 use crate::working::Worked;
 use std::alloc::Global;
 use std::thread::Threads;
 use sync_ql::limits::LAST_MILLISECOND;
 use sync_text::{NoMemory, Rows};
 use sync_topo::{Case, Event, Plan};
+use timings::Timing;
 
 /// What becomes of a network in a case, whence its elements have their timing then, and what the case
 /// costs on the way.
@@ -60,33 +61,21 @@ pub fn study<R: Threads + Sync, G: Gate + Sync>(
     ensures bound { IfOk result (All (λ row. IfSome row.outcome.bound (λ bound. bound ≤ until →
         row.outcome.settled ≡ true))) }
 {
-    let worked = work_all(rt, alloc, plan, common, cases, until, true, gate)?;
+    let worked = work_all::<R, G, Timed>(rt, alloc, plan, common, cases, until, gate)?;
     study_rows(alloc, worked.as_slice())
 }
 
 /// The rows of cases that were timed.
 fn study_rows(alloc: Global, worked: &[Worked]) -> Result<Rows<StudyRow>, NoMemory>
-    requires timed { All (λ one. is_some one.timing ≡ true) worked.now }
     ensures { IfOk result (AllZip IsStudyRowOf worked.now) }
 {
     let mut rows = Rows::new(alloc);
     for one in worked {
-        rows.push(study_row(*one))?;
+        rows.push(StudyRow {
+            outcome: one.outcome,
+            timing: one.timing,
+            way: one.way,
+        })?;
     }
     Ok(rows)
-}
-
-/// The row of a case that was timed.
-fn study_row(worked: Worked) -> StudyRow
-    requires timed { is_some worked.timing ≡ true }
-    ensures { IsStudyRowOf worked result }
-{
-    match worked.timing {
-        Some(timing) => StudyRow {
-            outcome: worked.outcome,
-            timing,
-            way: worked.way,
-        },
-        None => unreachable!(),
-    }
 }

@@ -4,26 +4,24 @@ ghost use Rattle.std.specs.Prelude.{◌≡◌, ◌≤◌, ◌<◌, ◌*◌, ◌/
 ghost use Rattle.std.specs.List.{All};
 ghost use Rattle.sync_topo.specs.Events.{IsCase, IsEventList};
 ghost use Rattle.sync_sweep.specs.private.Base.{IsBase};
-ghost use Rattle.sync_sweep.specs.private.Cases.{NoneBefore};
-ghost use Rattle.sync_sweep.specs.Outcomes.{IsBoundAfter};
+ghost use Rattle.sync_sweep.specs.private.Study.{IsStudy, AreCasesOf};
 ghost use Rattle.sync_sweep.specs.Sweep.{AreSweepRows};
 ghost use Rattle.sync_sweep.specs.private.Working.{AreWorked};
 
 use crate::cases::{begin_of, failures};
 use crate::chunks::{join_worked, worked_in};
+use crate::common::Study;
 use crate::gate::Gate;
 use crate::row::{SweepRow, rows_of};
+use crate::timer::{Timer, Untimed};
 use crate::working::Worked;
 use cycle_plan::settling_bound;
-use event_sim::{Reach, Sim, Watch};
-use event_times::events_until;
+use event_sim::{Sim, Watch, run_to};
 use std::alloc::Global;
-use std::marker::Brand;
-use std::sync::ledger::{Blank, Ledger};
 use std::thread;
 use std::thread::Threads;
 use sync_ql::limits::LAST_MILLISECOND;
-use sync_text::{NoMemory, Rows, Steps};
+use sync_text::{NoMemory, Rows};
 use sync_topo::{Case, Event, Plan};
 
 /// Into so many chunks the cases are cut at most.
@@ -54,36 +52,41 @@ pub fn sweep<R: Threads + Sync, G: Gate + Sync>(
 {
     net_rules::event_law();
     let cases = failures(alloc, plan.links(), at)?;
-    let worked = work_all(rt, alloc, plan, &[], cases.as_slice(), until, false, gate)?;
+    let worked = work_all::<R, G, Untimed>(rt, alloc, plan, &[], cases.as_slice(), until, gate)?;
     rows_of(alloc, worked.as_slice())
 }
 
 /// What becomes of the plan's network at the end of a millisecond in each case, where the common
-/// events happen in all of them, with the timing of its elements where they are to be timed.
-pub(crate) fn work_all<R: Threads + Sync, G: Gate + Sync>(
+/// events happen in all of them, with what a timer tells of each.
+pub(crate) fn work_all<'p, R: Threads + Sync, G: Gate + Sync, T: Timer + Sync>(
     rt: &R,
     alloc: Global,
-    plan: &Plan,
-    common: &[Event],
+    plan: &'p Plan,
+    common: &'p [Event],
     cases: &[Case],
     until: u64,
-    timed: bool,
     gate: &G,
 ) -> Result<Rows<Worked>, NoMemory>
     requires common { IsEventList plan.now common.now }
     requires cases { All (IsCase plan.now) cases.now }
     requires in_range { until ≤ LAST_MILLISECOND }
-    ensures worked { IfOk result (AreWorked plan.now common.now until timed cases.now) }
+    ensures worked { IfOk result (AreWorked T.IsTold plan.now common.now until cases.now) }
 {
     if cases.is_empty() {
         return Ok(Rows::new(alloc));
     }
     let bound = settling_bound(alloc, plan, until)?;
     let from = begin_of(cases, until);
-    let base = base_run::<Brand>(alloc, plan, common, from, Blank::new(1))?;
-    in_chunks(
-        rt, alloc, &base, common, from, until, bound, cases, timed, gate,
-    )
+    let sim = base_run(alloc, plan, common, from)?;
+    let _reached = sim.reached();
+    let study = Study {
+        base: sim.net(),
+        common,
+        from,
+        until,
+        bound,
+    };
+    in_chunks::<R, G, T>(rt, alloc, &study, cases, gate)
 }
 
 /// How many cases each chunk has: enough that there are at most eight chunks.
@@ -104,28 +107,18 @@ fn chunk_number(start: usize, size: usize) -> u32
     (start / size) as u32
 }
 
-/// What becomes of the network in each case, worked in chunks.
-fn in_chunks<R: Threads + Sync, G: Gate + Sync>(
+/// What becomes of the network in each case of a study, worked in chunks.
+fn in_chunks<R: Threads + Sync, G: Gate + Sync, T: Timer + Sync>(
     rt: &R,
     alloc: Global,
-    base: &Sim<'_>,
-    common: &[Event],
-    from: u64,
-    until: u64,
-    bound: Option<u64>,
+    study: &Study<'_, '_>,
     cases: &[Case],
-    timed: bool,
     gate: &G,
 ) -> Result<Rows<Worked>, NoMemory>
     requires some { 0 < length cases.now }
-    requires base { IsBase common.now from base.now }
-    requires common { IsEventList base.now.net.plan common.now }
-    requires cases { All (IsCase base.now.net.plan) cases.now }
-    requires later { NoneBefore from cases.now }
-    requires in_order { from ≤ until }
-    requires in_range { until ≤ LAST_MILLISECOND }
-    requires bound { IsBoundAfter base.now.net.plan until bound }
-    ensures worked { IfOk result (AreWorked base.now.net.plan common.now until timed cases.now) }
+    requires study { IsStudy study.now }
+    requires cases { AreCasesOf study.now cases.now }
+    ensures worked { IfOk result (AreWorked T.IsTold study.now.base.now.plan study.now.common.now study.now.until cases.now) }
 {
     let size = chunk_size(cases.len());
     let parts = thread::map_chunks(
@@ -134,17 +127,12 @@ fn in_chunks<R: Threads + Sync, G: Gate + Sync>(
         cases,
         size,
         &|start: usize, chunk: &[Case]| -> Result<Rows<Worked>, NoMemory>
-            requires { (0 < size) × (start < CHUNKS * size) × IsBase common.now from base.now
-                × IsEventList base.now.net.plan common.now
-                × All (IsCase base.now.net.plan) chunk.now × NoneBefore from chunk.now
-                × (from ≤ until) × (until ≤ LAST_MILLISECOND)
-                × IsBoundAfter base.now.net.plan until bound }
-            ensures { IfOk result (AreWorked base.entry.now.net.plan common.entry.now until timed
-                chunk.entry.now) }
+            requires { (0 < size) × (start < CHUNKS * size) × IsStudy study.now × AreCasesOf study.now chunk.now }
+            ensures { IfOk result (AreWorked T.IsTold study.entry.now.base.now.plan study.entry.now.common.now
+                study.entry.now.until chunk.entry.now) }
         {
-            work(
-                gate, alloc, base, common, from, until, bound, size, start, chunk, timed,
-            )
+            gate.enter(chunk_number(start, size));
+            worked_in::<T>(alloc, study, chunk)
         },
     );
     match parts {
@@ -153,60 +141,23 @@ fn in_chunks<R: Threads + Sync, G: Gate + Sync>(
     }
 }
 
-/// What becomes of the network in the cases of a chunk, from the place of its first.
-fn work<G: Gate>(
-    gate: &G,
-    alloc: Global,
-    base: &Sim<'_>,
-    common: &[Event],
-    from: u64,
-    until: u64,
-    bound: Option<u64>,
-    size: usize,
-    start: usize,
-    chunk: &[Case],
-    timed: bool,
-) -> Result<Rows<Worked>, NoMemory>
-    requires size { 0 < size }
-    requires start { start < CHUNKS * size }
-    requires base { IsBase common.now from base.now }
-    requires common { IsEventList base.now.net.plan common.now }
-    requires cases { All (IsCase base.now.net.plan) chunk.now }
-    requires later { NoneBefore from chunk.now }
-    requires in_order { from ≤ until }
-    requires in_range { until ≤ LAST_MILLISECOND }
-    requires bound { IsBoundAfter base.now.net.plan until bound }
-    ensures worked { IfOk result (AreWorked base.now.net.plan common.now until timed chunk.now) }
-{
-    gate.enter(chunk_number(start, size));
-    worked_in(alloc, base, common, from, until, bound, chunk, timed)
-}
-
 /// A simulator of the plan that watches nothing and has come as far as up to a millisecond, with
 /// the common events before it.
-fn base_run<'a, L: Ledger>(
+fn base_run<'a>(
     alloc: Global,
     plan: &'a Plan,
     common: &[Event],
     from: u64,
-    blank: Blank,
 ) -> Result<Sim<'a>, NoMemory>
-    requires name { blank.name ≡ L.name }
-    requires parts { blank.parts ≡ L.parts }
-    requires some { 0 < blank.parts }
     requires common { IsEventList plan.now common.now }
     requires in_range { from ≤ LAST_MILLISECOND }
     ensures plan { IfOk result (λ sim. sim.net.plan ≡ plan.now) }
     ensures base { IfOk result (IsBase common.now from) }
 {
-    let mut steps = Steps::<L>::new(blank);
-    let mut sim = Sim::new(alloc, plan, Watch::Nothing)?;
     if from == 0 {
-        return Ok(sim);
+        let unstarted = Sim::new(alloc, plan, Watch::Nothing)?;
+        return Ok(unstarted);
     }
-    let told = events_until(common, from - 1);
-    match sim.advance(told, from - 1, &mut steps)? {
-        Reach::Until => Ok(sim),
-        Reach::Stopped(_) => unreachable!(),
-    }
+    let (sim, _) = run_to(alloc, plan, Watch::Nothing, common, from - 1)?;
+    Ok(sim)
 }

@@ -1,6 +1,7 @@
 -- How the work of a form ends: with a reply to what was read, or with what ended the reading.
-use Rattle.std.proofs.Common.{◌≡◌, ℕ, Bool, List, Option, None, Some, Result, Ok, Err, refl, sym, subst, arith}
+use Rattle.std.proofs.Common.{◌≡◌, ℕ, List, Option, None, Some, Result, Ok, Err, refl, sym, subst, arith}
 use Rattle.std.specs.Prelude.{⊤, IfOk, IfSome, codes}
+use Rattle.std.proofs.lemmas.Option.{IfSome_then}
 use Rattle.sync_text.specs.declared.errors.NoMemory as wanting
 use Rattle.sync_edge.specs.Contents.{Contents}
 use Rattle.plan_texts.specs.Lines.{text_line}
@@ -15,7 +16,6 @@ use Rattle.sync_top.specs.declared.reply.Stop.TheVariants.{Ended, NoMemory}
 use Rattle.sync_top.specs.Form.{Form}
 use Rattle.sync_top.specs.Reading.{End, no_file, answered, one_file, no_files}
 use Rattle.sync_top.specs.Answer.{Outside, meaning, FormAnswer, FormMissesFile, IsAnswer, MissesFile}
-use Rattle.sync_top.proofs.Cuts.{outside}
 use Rattle.sync_top.specs.private.Work.{EndsIn, Gets, HasRead, WorkFacts, Works, ends_in, replied}
 
 -- what holds of all contents holds of those that are told
@@ -176,19 +176,8 @@ no-memory outside tried = record {
 }
 
 -- what follows from an answer that is done holds where the work ended so
-pub done-from : (P : Contents → Type 0) (words : List (List ℕ)) (told : Option Contents) (steady : Bool) (before now : ℕ) (status : Status) (text : List ℕ)
+pub done-from : (P : Contents → Type 0) (words : List (List ℕ)) (outside : Outside) (status : Status) (text : List ℕ)
     → ((files : Contents) → IsAnswer words files Done text → P files)
-    → EndsIn (IsAnswer words) (MissesFile words) (outside told steady before now) status text → status ≡ Done → IfSome told P
-done-from P words None steady before now status text follows ends done = tt
-done-from P words (Some files) steady before now Done text follows ends done = follows files ends.0
-done-from P words (Some files) steady before now Refuted text follows ends done = cc
-done-from P words (Some files) steady before now Usage text follows ends done = cc
-done-from P words (Some files) steady before now BadPlan text follows ends done = cc
-done-from P words (Some files) steady before now BadCert text follows ends done = cc
-done-from P words (Some files) steady before now BadEvents text follows ends done = cc
-done-from P words (Some files) steady before now BadFrames text follows ends done = cc
-done-from P words (Some files) steady before now ReadFault text follows ends done = cc
-done-from P words (Some files) steady before now WriteFault text follows ends done = cc
-done-from P words (Some files) steady before now TooLong text follows ends done = cc
-done-from P words (Some files) steady before now NoMemory text follows ends done = cc
-done-from P words (Some files) steady before now Stopped text follows ends done = cc
+    → EndsIn (IsAnswer words) (MissesFile words) outside status text → status ≡ Done → IfSome outside.told P
+done-from P words outside status text follows ends done =
+    IfSome_then outside.told (subst (λ (s : Status). EndsIn (IsAnswer words) (MissesFile words) outside s text) done ends).0 follows

@@ -1,7 +1,6 @@
 -- What a done answer says of the plan that was read: no timing loop can form in it, its rows of chains are bounds, and it
 -- holds out.
-use Rattle.std.proofs.Common.{◌≡◌, ℕ, Bool, List, Option, Some, None, Result, Ok, Err, refl, sym, ◌∙◌}
-use Rattle.std.specs.Prelude.{IfSome}
+use Rattle.std.proofs.Common.{◌≡◌, ℕ, List, Option, Some, Result, Ok, Err, refl, sym, subst, ◌∙◌}
 use Rattle.sync_edge.specs.Contents.{Contents}
 use Rattle.sync_topo.specs.declared.error.PlanErr.{PlanErr}
 use Rattle.sync_topo.specs.declared.rows.PlanRows.{PlanRows}
@@ -19,22 +18,20 @@ use Rattle.rank_cert.specs.Ranks.{Ranks, rank_of}
 use Rattle.rank_cert.specs.CertificateText.{certificate_of}
 use Rattle.sync_top.specs.declared.status.Status.{Status}
 use Rattle.sync_top.specs.declared.status.Status.TheVariants.{Done, BadCert, BadEvents}
-use Rattle.sync_top.specs.declared.form.PlanForm.TheVariants.{Rank, Chains, Protected, Protect, Agree, Hops, Nominate, PrioRank, Sweep}
+use Rattle.sync_top.specs.declared.form.PlanForm.TheVariants.{Chains, Protected, Agree}
 use Rattle.sync_top.specs.declared.form.FileForm.TheVariants as asks
 use Rattle.sync_top.specs.declared.form.RanksForm.{RanksForm}
 use Rattle.sync_top.specs.declared.form.RanksForm.TheVariants.{Check, PrioCheck}
-use Rattle.sync_top.specs.declared.form.LadderForm.TheVariants.{Gen, Trial}
-use Rattle.sync_top.specs.Form.{Form, PlanName, form_of, on_plan, on_file, on_frames, on_ladder, node}
+use Rattle.sync_top.specs.declared.form.LadderForm.TheVariants.{Trial}
+use Rattle.sync_top.specs.Form.{Form, PlanName, on_plan, on_file, on_ladder}
 use Rattle.sync_top.specs.Reading.{End, no_file, answered, file, plan_in, plan_and_file, Answered, OrRefused}
 use Rattle.sync_top.specs.Forms.Check.{certificate_refusal}
-use Rattle.sync_top.specs.Answer.{FormAnswer, IsAnswer, IsRanksReply, MissesFile, RanksAnswer}
+use Rattle.sync_top.specs.Forms.Trial.{IsTrial}
+use Rattle.sync_top.specs.Answer.{FormAnswer, IsRanksReply, RanksAnswer}
 use Rattle.sync_top.specs.LoopFree.{IsCheckedLoopFree}
 use Rattle.sync_top.specs.Forms.Priority.{IsCheckedForPriority}
 use Rattle.prio_mode.proofs.LoopLaws.{never_loops}
-use Rattle.sync_top.specs.private.Work.{EndsIn}
 use Rattle.sync_top.proofs.Accepted.{file_never_done, never_done}
-use Rattle.sync_top.proofs.Cuts.{outside}
-use Rattle.sync_top.proofs.Endings.{done-from}
 use Rattle.sync_top.specs.ChainBounds.{IsBoundedByChains}
 use Rattle.sync_top.specs.Protection.{IsHoldingOut}
 use Rattle.sync_top.specs.Agreement.{IsComingToRest}
@@ -119,176 +116,78 @@ rising what hop plan_name name text files rises answer =
     let given = done-given (RanksAnswer what plan) BadCert (certificate_refusal plan) (certificate_of plan read.2.0) text (λ done. cc) read.2.2 in
     (plan, read.1, (given.0, rises plan given.0 given.2))
 
-form-loop_free : (form : Option Form) (files : Contents) (text : List ℕ) → FormAnswer form files Done text → IsCheckedLoopFree form files
-form-loop_free None files text answer = tt
-form-loop_free (Some (on_plan what plan)) files text answer = tt
-form-loop_free (Some (on_file (asks.Ranks Check) plan name)) files text answer =
-    let found = rising Check hops plan name text files (λ plan ranks verdict. verdict.0) answer in
-    (found.0, found.1, loop_free found.0 (rank_of found.2.0) (file-well plan files found.0 found.1) found.2.1)
-form-loop_free (Some (on_file (asks.Ranks PrioCheck) plan name)) files text answer = tt
-form-loop_free (Some (on_file (asks.Events what until) plan name)) files text answer = tt
-form-loop_free (Some (on_file (asks.Study until) plan name)) files text answer = tt
-form-loop_free (Some (on_file asks.Groups plan name)) files text answer = tt
-form-loop_free (Some (on_frames what option name)) files text answer = tt
-form-loop_free (Some (on_ladder Gen n)) files text answer = tt
-form-loop_free (Some (on_ladder Trial n)) files text answer = answer.1.accepted
-form-loop_free (Some (node plan element name until)) files text answer = tt
+-- what the answer to a form says where the form is this one
+pub answer-to : (form : Option Form) (own : Form) (files : Contents) (text : List ℕ) → FormAnswer form files Done text → form ≡ Some own → FormAnswer (Some own) files Done text
+answer-to form own files text answer is = subst (λ (f : Option Form). FormAnswer f files Done text) is answer
 
-form-never_loops : (form : Option Form) (files : Contents) (text : List ℕ) → FormAnswer form files Done text → IsCheckedForPriority form files
-form-never_loops None files text answer = tt
-form-never_loops (Some (on_plan what plan)) files text answer = tt
-form-never_loops (Some (on_file (asks.Ranks Check) plan name)) files text answer = tt
-form-never_loops (Some (on_file (asks.Ranks PrioCheck) plan name)) files text answer =
-    let found = rising PrioCheck hops_any plan name text files (λ plan ranks verdict. verdict.0) answer in
-    (found.0, found.1, never_loops found.0 (rank_of found.2.0) found.2.1)
-form-never_loops (Some (on_file (asks.Events what until) plan name)) files text answer = tt
-form-never_loops (Some (on_file (asks.Study until) plan name)) files text answer = tt
-form-never_loops (Some (on_file asks.Groups plan name)) files text answer = tt
-form-never_loops (Some (on_frames what option name)) files text answer = tt
-form-never_loops (Some (on_ladder what n)) files text answer = tt
-form-never_loops (Some (node plan element name until)) files text answer = tt
+module _ (form : Option Form) (files : Contents) (text : List ℕ) (answer : FormAnswer form files Done text) where
+  pub form-loop_free : IsCheckedLoopFree form files
+  form-loop_free = record {
+    checked = λ plan_name name is.
+        let found = rising Check hops plan_name name text files (λ plan ranks verdict. verdict.0) (answer-to form (on_file (asks.Ranks Check) plan_name name) files text answer is) in
+        (found.0, found.1, loop_free found.0 (rank_of found.2.0) (file-well plan_name files found.0 found.1) found.2.1);
+    tried = λ n is. let trial : IsTrial n Done text = answer-to form (on_ladder Trial n) files text answer is in trial.1.accepted;
+  }
 
--- where `chains` is done, a plan was read, and it has rows, which are bounds
-chains-bound : (name : PlanName) (text : List ℕ) (files : Contents) → Answered IsChained (plan_in name files) Done text → IsBoundedByChains (Some (on_plan Chains name)) files
-chains-bound name text files answer =
-    let found = done-read IsChained (plan_in name files) text (never_done name files) answer in
-    let rows = found.2.1 in
-    (found.0, found.1, (rows.0, rows.1, rows-bound found.0 rows.0 (file-well name files found.0 found.1) rows.1))
+  pub form-never_loops : IsCheckedForPriority form files
+  form-never_loops = λ plan_name name is.
+      let found = rising PrioCheck hops_any plan_name name text files (λ plan ranks verdict. verdict.0) (answer-to form (on_file (asks.Ranks PrioCheck) plan_name name) files text answer is) in
+      (found.0, found.1, never_loops found.0 (rank_of found.2.0) found.2.1)
 
-form-bounds : (form : Option Form) (files : Contents) (text : List ℕ) → FormAnswer form files Done text → IsBoundedByChains form files
-form-bounds None files text answer = tt
-form-bounds (Some (on_plan Chains plan)) files text answer = chains-bound plan text files answer
-form-bounds (Some (on_plan Rank plan)) files text answer = tt
-form-bounds (Some (on_plan Protected plan)) files text answer = tt
-form-bounds (Some (on_plan Agree plan)) files text answer = tt
-form-bounds (Some (on_plan Protect plan)) files text answer = tt
-form-bounds (Some (on_plan Hops plan)) files text answer = tt
-form-bounds (Some (on_plan Nominate plan)) files text answer = tt
-form-bounds (Some (on_plan PrioRank plan)) files text answer = tt
-form-bounds (Some (on_plan (Sweep at until) plan)) files text answer = tt
-form-bounds (Some (on_file what plan name)) files text answer = tt
-form-bounds (Some (on_frames what option name)) files text answer = tt
-form-bounds (Some (on_ladder what n)) files text answer = tt
-form-bounds (Some (node plan element name until)) files text answer = tt
+  -- where `chains` is done, a plan was read, and it has rows, which are bounds
+  pub form-bounds : IsBoundedByChains form files
+  form-bounds = λ name is.
+      let found = done-read IsChained (plan_in name files) text (never_done name files) (answer-to form (on_plan Chains name) files text answer is) in
+      let rows = found.2.1 in
+      (found.0, found.1, (rows.0, rows.1, rows-bound found.0 rows.0 (file-well name files found.0 found.1) rows.1))
 
--- where `protected` is done, a plan was read, and it holds out
-protected-holds_out : (name : PlanName) (text : List ℕ) (files : Contents) → Answered IsProtectedText (plan_in name files) Done text
-    → IsHoldingOut (Some (on_plan Protected name)) files
-protected-holds_out name text files answer =
-    let found = done-read IsProtectedText (plan_in name files) text (never_done name files) answer in
-    (found.0, found.1, protected-holds found.0 (file-well name files found.0 found.1) found.2.0)
+  -- where `protected` is done, a plan was read, and it holds out; and with groups, a plan and groups were read, and it withstands them
+  pub form-holds_out : IsHoldingOut form files
+  form-holds_out = record {
+    alone = λ name is.
+        let found = done-read IsProtectedText (plan_in name files) text (never_done name files) (answer-to form (on_plan Protected name) files text answer is) in
+        (found.0, found.1, protected-holds found.0 (file-well name files found.0 found.1) found.2.0);
+    grouped = λ plan_name name is.
+        let read = done-file (λ read. IsGroupsReply read.0 read.1) plan_name name text files (answer-to form (on_file asks.Groups plan_name name) files text answer is) in
+        let plan = read.0 in
+        let bytes = read.2.0 in
+        let given = done-given (IsGroupsText plan) BadEvents group_refusal (groups_of plan bytes) text (λ done. cc) read.2.2 in
+        let groups = given.0 in
+        let well = file-well plan_name files plan read.1 in
+        let protected : IsProtectedWith plan groups = given.2.0 in (
+          plan,
+          read.1,
+          (
+            bytes,
+            read.2.1,
+            (
+              groups,
+              given.1,
+              record {
+                holds = with-holds plan groups well protected;
+                survives = λ bound agreed. survives-with plan bound groups well agreed protected;
+                soon = λ bound failed. survives-soon_with plan bound groups well failed protected;
+              },
+            ),
+          ),
+        );
+  }
 
--- and with groups, a plan and groups were read, and it withstands them
-groups-hold_out : (plan_name : PlanName) (name text : List ℕ) (files : Contents)
-    → Answered (λ (read : Topology × List ℕ). IsGroupsReply read.0 read.1) (plan_and_file plan_name name files) Done text
-    → IsHoldingOut (Some (on_file asks.Groups plan_name name)) files
-groups-hold_out plan_name name text files answer =
-    let read = done-file (λ read. IsGroupsReply read.0 read.1) plan_name name text files answer in
-    let plan = read.0 in
-    let bytes = read.2.0 in
-    let given = done-given (IsGroupsText plan) BadEvents group_refusal (groups_of plan bytes) text (λ done. cc) read.2.2 in
-    let groups = given.0 in
-    let well = file-well plan_name files plan read.1 in
-    let protected : IsProtectedWith plan groups = given.2.0 in (
-      plan,
-      read.1,
-      (
-        bytes,
-        read.2.1,
-        (
-          groups,
-          given.1,
-          record {
-            holds = with-holds plan groups well protected;
-            survives = λ bound agreed. survives-with plan bound groups well agreed protected;
-            soon = λ bound failed. survives-soon_with plan bound groups well failed protected;
-          },
-        ),
-      ),
-    )
-
-form-holds_out : (form : Option Form) (files : Contents) (text : List ℕ) → FormAnswer form files Done text → IsHoldingOut form files
-form-holds_out None files text answer = tt
-form-holds_out (Some (on_plan Protected plan)) files text answer = protected-holds_out plan text files answer
-form-holds_out (Some (on_plan Rank plan)) files text answer = tt
-form-holds_out (Some (on_plan Chains plan)) files text answer = tt
-form-holds_out (Some (on_plan Agree plan)) files text answer = tt
-form-holds_out (Some (on_plan Protect plan)) files text answer = tt
-form-holds_out (Some (on_plan Hops plan)) files text answer = tt
-form-holds_out (Some (on_plan Nominate plan)) files text answer = tt
-form-holds_out (Some (on_plan PrioRank plan)) files text answer = tt
-form-holds_out (Some (on_plan (Sweep at until) plan)) files text answer = tt
-form-holds_out (Some (on_file (asks.Ranks what) plan name)) files text answer = tt
-form-holds_out (Some (on_file (asks.Events what until) plan name)) files text answer = tt
-form-holds_out (Some (on_file (asks.Study until) plan name)) files text answer = tt
-form-holds_out (Some (on_file asks.Groups plan name)) files text answer = groups-hold_out plan name text files answer
-form-holds_out (Some (on_frames what option name)) files text answer = tt
-form-holds_out (Some (on_ladder what n)) files text answer = tt
-form-holds_out (Some (node plan element name until)) files text answer = tt
-
--- where `agree` is done, a plan was read, and it comes to rest by its bounds
-agreed-rests : (name : PlanName) (text : List ℕ) (files : Contents) → Answered IsAgreedText (plan_in name files) Done text
-    → IsComingToRest (Some (on_plan Agree name)) files
-agreed-rests name text files answer =
-    let found = done-read IsAgreedText (plan_in name files) text (never_done name files) answer in
-    let plan = found.0 in
-    let is = found.2 in (
-      plan,
-      found.1,
-      record {
-        bound = is.bound;
-        agreed = is.agreed;
-        comes = comes-to-rest plan is.bound is.well_formed is.agreed;
-        failures = is.failures;
-        failed = is.failed;
-        sooner = sooner (is_planned plan) plan is.failures is.bound is.failed is.agreed;
-        soon = rests-soon plan is.failures is.well_formed is.failed;
-      },
-    )
-
-form-rests : (form : Option Form) (files : Contents) (text : List ℕ) → FormAnswer form files Done text → IsComingToRest form files
-form-rests None files text answer = tt
-form-rests (Some (on_plan Agree plan)) files text answer = agreed-rests plan text files answer
-form-rests (Some (on_plan Rank plan)) files text answer = tt
-form-rests (Some (on_plan Chains plan)) files text answer = tt
-form-rests (Some (on_plan Protected plan)) files text answer = tt
-form-rests (Some (on_plan Protect plan)) files text answer = tt
-form-rests (Some (on_plan Hops plan)) files text answer = tt
-form-rests (Some (on_plan Nominate plan)) files text answer = tt
-form-rests (Some (on_plan PrioRank plan)) files text answer = tt
-form-rests (Some (on_plan (Sweep at until) plan)) files text answer = tt
-form-rests (Some (on_file what plan name)) files text answer = tt
-form-rests (Some (on_frames what option name)) files text answer = tt
-form-rests (Some (on_ladder what n)) files text answer = tt
-form-rests (Some (node plan element name until)) files text answer = tt
-
--- so they are where the work ended in this status
-pub loop_free-from : (words : List (List ℕ)) (told : Option Contents) (steady : Bool) (before now : ℕ) (status : Status) (text : List ℕ)
-    → EndsIn (IsAnswer words) (MissesFile words) (outside told steady before now) status text → status ≡ Done
-    → IfSome told (IsCheckedLoopFree (form_of words))
-loop_free-from words told steady before now status text =
-    done-from (IsCheckedLoopFree (form_of words)) words told steady before now status text (λ files. form-loop_free (form_of words) files text)
-
-pub never_loops-from : (words : List (List ℕ)) (told : Option Contents) (steady : Bool) (before now : ℕ) (status : Status) (text : List ℕ)
-    → EndsIn (IsAnswer words) (MissesFile words) (outside told steady before now) status text → status ≡ Done
-    → IfSome told (IsCheckedForPriority (form_of words))
-never_loops-from words told steady before now status text =
-    done-from (IsCheckedForPriority (form_of words)) words told steady before now status text (λ files. form-never_loops (form_of words) files text)
-
-pub bounds-from : (words : List (List ℕ)) (told : Option Contents) (steady : Bool) (before now : ℕ) (status : Status) (text : List ℕ)
-    → EndsIn (IsAnswer words) (MissesFile words) (outside told steady before now) status text → status ≡ Done
-    → IfSome told (IsBoundedByChains (form_of words))
-bounds-from words told steady before now status text =
-    done-from (IsBoundedByChains (form_of words)) words told steady before now status text (λ files. form-bounds (form_of words) files text)
-
-pub holds_out-from : (words : List (List ℕ)) (told : Option Contents) (steady : Bool) (before now : ℕ) (status : Status) (text : List ℕ)
-    → EndsIn (IsAnswer words) (MissesFile words) (outside told steady before now) status text → status ≡ Done
-    → IfSome told (IsHoldingOut (form_of words))
-holds_out-from words told steady before now status text =
-    done-from (IsHoldingOut (form_of words)) words told steady before now status text (λ files. form-holds_out (form_of words) files text)
-
-pub rests-from : (words : List (List ℕ)) (told : Option Contents) (steady : Bool) (before now : ℕ) (status : Status) (text : List ℕ)
-    → EndsIn (IsAnswer words) (MissesFile words) (outside told steady before now) status text → status ≡ Done
-    → IfSome told (IsComingToRest (form_of words))
-rests-from words told steady before now status text =
-    done-from (IsComingToRest (form_of words)) words told steady before now status text (λ files. form-rests (form_of words) files text)
+  -- where `agree` is done, a plan was read, and it comes to rest by its bounds
+  pub form-rests : IsComingToRest form files
+  form-rests = λ name asked.
+      let found = done-read IsAgreedText (plan_in name files) text (never_done name files) (answer-to form (on_plan Agree name) files text answer asked) in
+      let plan = found.0 in
+      let is = found.2 in (
+        plan,
+        found.1,
+        record {
+          bound = is.bound;
+          agreed = is.agreed;
+          comes = comes-to-rest plan is.bound is.well_formed is.agreed;
+          failures = is.failures;
+          failed = is.failed;
+          sooner = sooner (is_planned plan) plan is.failures is.bound is.failed is.agreed;
+          soon = rests-soon plan is.failures is.well_formed is.failed;
+        },
+      )

@@ -1,45 +1,25 @@
 -- What a simulator that was told events up to a millisecond has come to.
-use Rattle.std.proofs.Common.{◌≡◌, ◌<◌, ◌≤◌, ◌-◌, ℕ, zero, suc, Bool, List, [], ◌++◌, length, Option, Some, Ok, sym, ap, subst, ◌∙◌, inl, inr, arith}
+use Rattle.std.proofs.Common.{◌≡◌, ◌<◌, ◌≤◌, ◌-◌, ℕ, zero, suc, Bool, List, [], ◌++◌, length, Option, Some, ap, subst, ◌∙◌, inl, inr, arith}
 use Rattle.std.proofs.lemmas.List.{append_assoc}
 use Rattle.std.specs.Prelude.{◌↔◌, IsTrue, codes}
 use Rattle.std.specs.List.{All}
 use Rattle.sync_topo.specs.declared.event.Event.{Event}
 use Rattle.sync_topo.specs.Topology.{Topology}
-use Rattle.sync_topo.specs.Events.{Fits}
+use Rattle.sync_topo.specs.Events.{Fits, IsEventList}
 use Rattle.settle_trace.specs.Now.{IsSettledNow}
 use Rattle.plan_gen.specs.Ladder.{ladder}
 use Rattle.event_sim.specs.declared.change.Change.{Change}
 use Rattle.event_sim.specs.declared.change.Watch.{Watch}
-use Rattle.event_sim.specs.declared.change.Watch.TheVariants.{Changes, Nothing}
+use Rattle.event_sim.specs.declared.change.Watch.TheVariants.{Changes}
 use Rattle.event_sim.specs.declared.change.Reach.{Reach}
 use Rattle.event_sim.specs.declared.change.Reach.TheVariants.{Until, Stopped}
 use Rattle.sync_topo.specs.Sizes.{most_rows}
 use Rattle.event_sim.specs.Rows.{rows_until}
 use Rattle.event_sim.specs.SimState.{SimState, first_after}
-use Rattle.event_times.specs.EventTimes.{AreTold}
-use Rattle.event_sim.specs.Standing.{StandsFor, watched_rows}
-use Rattle.event_sim.specs.Answers.{is_stopped, OnUntil, IfStopped, IsLastFit}
+use Rattle.event_sim.specs.Standing.{watched_rows}
+use Rattle.event_sim.specs.Runs.{HasRun}
 use Rattle.sync_top.specs.Forms.Trial.{trial_events, counted_line, last_line, run_lines, trial_text, AreReportRows, IsSettledAt}
 use Rattle.trace_report.specs.LastParts.{settled_part}
-use Rattle.sync_top.specs.private.Runs.{CameTo, HasRun}
-
--- how far it came, by the clauses of an advance from before 0
-pub came_to : (plan : Topology) (events told : List Event) (watch : Watch) (until : ℕ) (made sim : SimState) (reach : Reach)
-    → made.net.plan ≡ plan → made.watch ≡ watch → AreTold made.net.plan events (first_after made.reached) until told → StandsFor made events
-    → sim.stopped ≡ is_stopped (Ok reach) → OnUntil (Ok reach) (sim.reached ≡ Some until) → OnUntil (Ok reach) (sim.net.next ≡ suc until)
-    → IfStopped (Ok reach) (λ t. sim.reached ≡ Some t) → IfStopped (Ok reach) (λ t. made.watch ≡ Changes)
-    → IfStopped (Ok reach) (λ t. (all : List Event) → AreTold made.net.plan all (first_after made.reached) until told → StandsFor made all
-    → IsLastFit made.net.plan all t until)
-    → CameTo plan events watch until sim reach
-came_to plan events told watch until made sim Until same watches are_told stands stopped reached next at watched last = (stopped, reached, next)
-came_to plan events told watch until made sim (Stopped t) same watches are_told stands stopped reached next at watched last =
-    (stopped, at, sym watches ∙ watched, subst (λ p. IsLastFit p events t until) same (last events are_told stands))
-
--- a simulator that watches nothing comes to the end
-pub unwatched_next : (plan : Topology) (events : List Event) (until : ℕ) (sim : SimState) (reach : Reach) → HasRun plan events Nothing until sim reach
-    → sim.net.next ≡ suc until
-unwatched_next plan events until sim Until run = run.came.2
-unwatched_next plan events until sim (Stopped t) run = absurd (cc (run.came.2))
 
 -- the changes of one that watches them are the rows that a report has
 module _ (plan : Topology) (events : List Event) (until : ℕ) (sim : SimState) where
@@ -49,10 +29,12 @@ module _ (plan : Topology) (events : List Event) (until : ℕ) (sim : SimState) 
       ∙ ap (λ (p : Topology). rows_until p events (first_after sim.reached)) run.of_plan
       ∙ ap (λ (r : Option ℕ). rows_until plan events (first_after r)) reached
 
+  pub all_fit : HasRun plan events Changes until sim Until → length (rows_until plan events (suc until)) ≤ most_rows plan
+  all_fit run = subst (λ (r : List Change). length r ≤ most_rows plan) (rows_at until Until run run.came.1)
+      (subst (λ (p : Topology). length sim.changes ≤ most_rows p) run.of_plan run.few)
+
   pub report_rows : (reach : Reach) → HasRun plan events Changes until sim reach → AreReportRows plan events until sim.changes
-  report_rows Until run =
-      let rows = rows_at until Until run run.came.1 in
-      inl (subst (λ (r : List Change). length r ≤ most_rows plan) rows (subst (λ (p : Topology). length sim.changes ≤ most_rows p) run.of_plan run.few), rows)
+  report_rows Until run = inl (all_fit run, rows_at until Until run run.came.1)
   report_rows (Stopped t) run = inr (t, run.came.3, rows_at t (Stopped t) run run.came.1)
 
   -- its last step's millisecond is settled just where the end of the run is
@@ -84,10 +66,13 @@ trial-text n plan top number links rows settled empty first second third whole i
     is_second ∙ ap (λ t. t ++ counted_line (codes "links") links) one ∙ ap (λ k. counted_line (codes "trial") n ++ counted_line (codes "links") k) is_links in
     is_whole ∙ ap (λ t. t ++ run_lines plan rows settled) (is_third ∙ ap (λ t. t ++ counted_line (codes "top") top) two)
 
--- the event of a trial fits a plan that has a link, and is in order
-pub event_fits : (plan : Topology) → 0 < length plan.links → All (Fits plan) trial_events
+-- the event of a trial is a list of events of a plan that has a link
+event_fits : (plan : Topology) → 0 < length plan.links → All (Fits plan) trial_events
 event_fits plan some zero other within = some
 event_fits plan some (suc k) other within = absurd (omega (arith, within))
+
+pub events-listed : (plan : Topology) → 0 < length plan.links → IsEventList plan trial_events
+events-listed plan some = record { fit = event_fits plan some; in_order = λ k other later. absurd (omega (arith, later)) }
 
 -- the ladder has a link
 pub has_link : (n : ℕ) → 2 ≤ n → 0 < length (ladder n).links

@@ -21,7 +21,6 @@ mod plans;
 mod program;
 mod protecting;
 mod reply;
-mod running;
 mod sim;
 mod status;
 mod studying;

@@ -46,10 +46,8 @@ fn received_in<F: Folder>(
             text: numbered_refusal(alloc, b"bad node ", UNKNOWN_ELEMENT, None, None)?,
         }));
     };
-    match file(alloc, folder, plan.size(), name) {
-        Ok(bytes) => Ok((element, bytes)),
-        Err(stop) => Err(stop),
-    }
+    let bytes = file(alloc, folder, plan.size(), name)?;
+    Ok((element, bytes))
 }
 
 /// The plan, its element and the bytes of a file, in this order.
@@ -66,10 +64,8 @@ pub(crate) fn node_bytes<F: Folder>(
     ensures within { IfOk result (λ read. read.1 < length read.0.elements) }
 {
     let plan = plan_in(alloc, folder, plan)?;
-    match received_in(alloc, folder, &plan, element, name) {
-        Ok((element, bytes)) => Ok((plan, element, bytes)),
-        Err(stop) => Err(stop),
-    }
+    let (element, bytes) = received_in(alloc, folder, &plan, element, name)?;
+    Ok((plan, element, bytes))
 }
 
 /// What is found of an element of a plan and the bytes of its file: the frames that it sends.

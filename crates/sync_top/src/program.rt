@@ -85,27 +85,31 @@ fn reply_to<R: Threads + Sync, F: Folder, G: Gate + Sync>(
 
 /// Runs the program: does what the words ask for, writes the answer, and gives the exit status.
 ///
-/// The words are those after the program's name. `check PLAN CERT` tests the ranks of a certificate
-/// on a plan, and `rank PLAN` gives the least ranks as a certificate, or the first cycle. `chains
-/// PLAN` gives the longest chains of timing into each element, or the first cycle. `protected PLAN`
-/// tells which elements each single failure cuts off although another path exists, and `protected
-/// PLAN GROUPS` does so for groups of parts that fail together as well. `protect PLAN` gives the plan
-/// with priorities by which no failure cuts any element off so, or tells which elements failures cut
-/// off in the plan that it found. `agree PLAN` tells whether priorities agree with the ways of timing,
-/// and for how long after the last event a network may then change, or the first circle of lines that
-/// clash. `hops PLAN` gives the hop counts, and `nominate PLAN` the plan with priorities by fewest
-/// hops. `decode OPTION FILE` gives the rows of captured frames, and `encode OPTION FILE` the frames of
-/// rows. `pcap-decode OPTION FILE` and `pcap-encode OPTION FILE` do the same for a classic pcap capture
-/// and rows with times. `sim PLAN EVENTS UNTIL` runs the plan's network from 0 to UNTIL with the faults and commands of an event list, and writes the
-/// report; UNTIL is a millisecond up to 86,400,000. `inspect PLAN EVENTS AT` runs it to AT, and
-/// tells of each command whether it was taken, what each element chose, and of each input why it is
-/// taken or isn't. `sweep PLAN AT UNTIL` tells for each link what the network is at UNTIL where
-/// that link alone fails at AT, a millisecond up to UNTIL, and `study PLAN CASES UNTIL` for each case
-/// of a list of cases what it is where the case's events happen, and what they cost on the way there.
-/// `prio-check`, `prio-rank` and `prio-sim` take the same files for a network whose elements choose by
-/// priority alone: a test of ranks, the least ranks or the event file of forced switches that make a
-/// loop, and the report of a run. `gen N` writes the ladder of N elements, 2 to 2,000, and `trial N`
-/// what planner, test and simulator find of it.
+/// The words are those after the program's name.
+///
+/// | words | what is written |
+/// |---|---|
+/// | `check PLAN CERT` | whether the ranks of a certificate rise over each hop of a plan |
+/// | `rank PLAN` | the least ranks as a certificate, or the first cycle |
+/// | `chains PLAN` | the longest chains of timing into each element, or the first cycle |
+/// | `protected PLAN` | which elements each single failure cuts off although another path exists |
+/// | `protected PLAN GROUPS` | the same, for groups of parts that fail together as well |
+/// | `protect PLAN` | the plan with priorities by which no failure cuts any element off so, or which elements failures cut off in the plan that was found |
+/// | `agree PLAN` | whether priorities agree with the ways of timing, and for how long after the last event a network may then change; or the first circle of lines that clash |
+/// | `hops PLAN` | the hop counts |
+/// | `nominate PLAN` | the plan with priorities by fewest hops |
+/// | `sweep PLAN AT UNTIL` | for each link what the network is at UNTIL where that link alone fails at AT |
+/// | `study PLAN CASES UNTIL` | for each case what the network is at UNTIL where its events happen, and what they cost on the way there |
+/// | `sim PLAN EVENTS UNTIL` | the report of the network from 0 to UNTIL with the faults and commands of an event list |
+/// | `inspect PLAN EVENTS AT` | of each command up to AT whether it was taken, what each element chose, and of each input why it is taken or isn't |
+/// | `prio-check`, `prio-rank`, `prio-sim` | by the same files, of a network whose elements choose by priority alone: the test of ranks, the least ranks or the event file of forced switches that make a loop, and the report of a run |
+/// | `node PLAN ELEMENT FILE UNTIL` | the frames that an element sends up to UNTIL, by what it received |
+/// | `decode OPTION FILE`, `encode OPTION FILE` | the rows of captured frames, and the frames of rows |
+/// | `pcap-decode OPTION FILE`, `pcap-encode OPTION FILE` | the same for a classic pcap capture and rows with times |
+/// | `gen N`, `trial N` | the ladder of N elements, 2 to 2,000, and what planner, test and simulator find of it |
+///
+/// UNTIL and the AT of `inspect` are milliseconds up to 86,400,000, and the AT of `sweep` is one up to
+/// UNTIL.
 ///
 /// A plan has at most 2,000 elements, 4,000 links and 2,000 sources. Before each of these words but
 /// those for captured frames and rows may stand `large`: then a plan has at most 100,000 elements,

@@ -9,23 +9,25 @@ ghost use Rattle.sync_top.specs.private.Work.{ends_in};
 use crate::form::EventsForm;
 use crate::found::{Finding, Found, done};
 use crate::reply::numbered_refusal;
-use crate::running::run_to;
 use event_file::{EventErr, read_events};
-use event_sim::{Reach, Watch};
+use event_sim::{Reach, Watch, run_to};
 use inspection::inspect;
 use prio_mode::prio_sim;
 use std::alloc::Global;
 use sync_ql::limits::LAST_MILLISECOND;
-use sync_text::{NoAnswer, NoMemory, Text};
+use sync_text::{NoAnswer, NoMemory};
 use sync_topo::{Event, Plan};
 use trace_report::report;
 
-/// The line on events that are refused.
-pub(crate) fn refusal_text(alloc: Global, refused: EventErr) -> Result<Text, NoMemory>
-    ensures { IfOk result (λ text. text ≡ text_line (event_refusal refused)) }
+/// What is found of events, or of cases, that are refused.
+pub(crate) fn events_refused(alloc: Global, refused: EventErr) -> Result<Found, NoMemory>
+    ensures { IfOk result (λ found. found ≡ record { finding = Finding.BadEvents; text = text_line (event_refusal refused) }) }
 {
     let (number, row) = refused.numbers();
-    numbered_refusal(alloc, b"bad events ", number, row, None)
+    Ok(Found {
+        finding: Finding::BadEvents,
+        text: numbered_refusal(alloc, b"bad events ", number, row, None)?,
+    })
 }
 
 /// What is found of the bytes of events: what is asked of their run up to a millisecond, or the line on
@@ -43,10 +45,7 @@ pub(crate) fn events_found(
     match read_events(alloc, plan, bytes) {
         Ok(events) => ran(alloc, what, plan, events.as_slice(), until),
         Err(NoAnswer::NoMemory) => Err(NoMemory),
-        Err(NoAnswer::Refused(refused)) => Ok(Found {
-            finding: Finding::BadEvents,
-            text: refusal_text(alloc, refused)?,
-        }),
+        Err(NoAnswer::Refused(refused)) => events_refused(alloc, refused),
     }
 }
 

@@ -4,8 +4,8 @@ ghost use Rattle.sync_topo.specs.Events.{IsCase, IsEventList};
 ghost use Rattle.sync_top.specs.Forms.Study.{IsStudyReply, IsStudyTable};
 ghost use Rattle.sync_top.specs.private.Work.{ends_in};
 
-use crate::found::{Finding, Found, done};
-use crate::sim::refusal_text;
+use crate::found::{Found, done};
+use crate::sim::events_refused;
 use event_file::{Cases, read_cases};
 use std::alloc::Global;
 use std::thread::Threads;
@@ -29,10 +29,7 @@ pub(crate) fn cases_found<R: Threads + Sync, G: Gate + Sync>(
     match read_cases(alloc, plan, bytes) {
         Ok(cases) => studied(rt, alloc, plan, &cases, until, gate),
         Err(NoAnswer::NoMemory) => Err(NoMemory),
-        Err(NoAnswer::Refused(refused)) => Ok(Found {
-            finding: Finding::BadEvents,
-            text: refusal_text(alloc, refused)?,
-        }),
+        Err(NoAnswer::Refused(refused)) => events_refused(alloc, refused),
     }
 }
 

@@ -11,13 +11,12 @@ ghost use Rattle.net_rules.specs.Settling.{IsGreatest, IsRank};
 ghost use Rattle.rank_cert.specs.Ranks.{rank_at};
 ghost use Rattle.event_sim.specs.Changes.{IsChangeOf};
 ghost use Rattle.event_sim.specs.declared.change.Change.{Change};
-ghost use Rattle.sync_top.specs.private.Runs.{HasRun};
+ghost use Rattle.event_sim.specs.Runs.{HasRun};
 ghost use Rattle.sync_top.specs.Forms.Trial.{trial_events, counted_line, last_line, run_lines, AreReportRows, IsSettledAt, IsTrialText};
 
 use crate::reply::put_number;
-use crate::running::run_to;
 use cycle_plan::{Ranked, rank_plan};
-use event_sim::{Change, Reach, Sim, Watch};
+use event_sim::{Change, Reach, Sim, Watch, run_to};
 use plan_gen::generate;
 use rank_cert::{Cert, Verdict};
 use settle_trace::settled;

@@ -6,7 +6,7 @@ ghost use Rattle.sync_topo.specs.Lines.{IsInput};
 ghost use Rattle.net_rules.specs.Signals.{signals_by};
 ghost use Rattle.net_rules.specs.History.{settings_of, out_at};
 ghost use Rattle.sync_net.specs.Standing.{ElementStands, StandsFor};
-ghost use Rattle.trace_report.specs.Words.{condition_text, input_row};
+ghost use Rattle.trace_report.specs.Words.{condition_text};
 ghost use Rattle.trace_report.specs.Report.{element_rows, inputs_part, conditions_at};
 
 use crate::conditions::{later, passed_until};
@@ -56,26 +56,10 @@ fn put_element(
     let passed = passed_until(element, inputs.len() as u32, until);
     for (place, input) in inputs.iter().enumerate() {
         let condition = later(element.cond(place as u32), passed);
-        put_row(alloc, text, plan, number, *input, condition)?;
+        put_condition(alloc, text, plan, number, *input, condition)?;
+        text.put(b"\n")?;
     }
     Ok(())
-}
-
-/// Puts the row of one input.
-fn put_row(
-    alloc: Global,
-    text: &mut Text,
-    plan: &Plan,
-    element: u32,
-    input: InputId,
-    condition: Cond,
-) -> Result<(), NoMemory>
-    requires within { element < length plan.now.elements }
-    requires input { IsInput plan.now input }
-    ensures put { OnOk result (text.new ≡ text.old ++ input_row plan.now element input condition) }
-{
-    put_condition(alloc, text, plan, element, input, condition)?;
-    text.put(b"\n")
 }
 
 /// Puts an input of an element in a condition: the names of both, the condition as a word, and how

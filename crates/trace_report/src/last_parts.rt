@@ -1,16 +1,14 @@
 //! Whence each element has its timing, which loops stand, and whether the network is settled.
 
-ghost use Rattle.std.specs.Prelude.{◌≡◌, ◌<◌, ◌+◌, ◌++◌, ℕ, false, List, length, map, OnOk, OnErr};
+ghost use Rattle.std.specs.Prelude.{◌≡◌, ◌<◌, ◌++◌, ℕ, false, List, length, map, OnOk, OnErr};
 ghost use Rattle.std.specs.List.{All};
 ghost use Rattle.sync_topo.specs.declared.event.Event.{Event};
 ghost use Rattle.sync_net.specs.Standing.{StandsFor};
 ghost use Rattle.settle_trace.specs.Now.{now_of};
 ghost use Rattle.sync_topo.specs.Lines.{numbers};
 ghost use Rattle.closed_walks.specs.Within.{IsEndOf, AreLinesOf};
-ghost use Rattle.trace_report.specs.Report.{inputs_part, conditions_at};
 ghost use Rattle.trace_report.specs.LastParts.{AreLastParts, end_name, end_word, loops_part, settled_part, trace_row, traces_part};
 
-use crate::inputs::put_inputs;
 use closed_walks::put_walks;
 use settle_trace::{End, Ending, Walk, loops, settled, traces};
 use std::alloc::Global;
@@ -18,26 +16,8 @@ use sync_net::Net;
 use sync_text::{NoMemory, Text};
 use sync_topo::Plan;
 
-/// Puts how the network stands in the millisecond of its last step.
-pub(crate) fn put_end(
-    alloc: Global,
-    text: &mut Text,
-    net: &Net<'_>,
-    until: u64,
-) -> Result<(), NoMemory>
-    requires live { net.now.spent ≡ false }
-    requires next { net.now.next ≡ until + 1 }
-    ensures put { OnOk result ((all : List Event) → StandsFor net.now all (until + 1) →
-        (last : List ℕ) × AreLastParts net.now.plan all until last
-        × (text.new ≡ text.old ++ inputs_part net.now.plan (conditions_at net.now.plan all until) ++ last)) }
-{
-    put_inputs(alloc, text, net, until)?;
-    put_last_parts(alloc, text, net)?;
-    Ok(())
-}
-
 /// Puts the last parts, as they are in the millisecond of the last step.
-fn put_last_parts(alloc: Global, text: &mut Text, net: &Net<'_>) -> Result<(), NoMemory>
+pub(crate) fn put_last_parts(alloc: Global, text: &mut Text, net: &Net<'_>) -> Result<(), NoMemory>
     requires live { net.now.spent ≡ false }
     requires stepped { 0 < net.now.next }
     ensures put { OnOk result ((all : List Event) → StandsFor net.now all net.now.next →

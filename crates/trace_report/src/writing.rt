@@ -6,7 +6,8 @@ ghost use Rattle.event_sim.specs.Standing.{StandsFor};
 ghost use Rattle.trace_report.specs.Report.{IsReportText, IsWholeReport, stopped_report, stopped_part, IsLastAnswer};
 
 use crate::changes::put_changes;
-use crate::last_parts::put_end;
+use crate::inputs::put_inputs;
+use crate::last_parts::put_last_parts;
 use event_sim::{Reach, Sim, Watch};
 use std::alloc::Global;
 use sync_text::{NoMemory, Text};
@@ -44,7 +45,8 @@ fn whole_text(alloc: Global, sim: &Sim<'_>, until: u64) -> Result<Text, NoMemory
     let mut text = Text::new(alloc);
     let _reached = sim.reached();
     put_changes(alloc, &mut text, sim.net().plan(), sim.changes())?;
-    put_end(alloc, &mut text, sim.net(), until)?;
+    put_inputs(alloc, &mut text, sim.net(), until)?;
+    put_last_parts(alloc, &mut text, sim.net())?;
     Ok(text)
 }
 

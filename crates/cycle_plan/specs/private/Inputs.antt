@@ -31,6 +31,11 @@ abbrev pub is_of_another : ReturnRule → Topology → Ranks → List InputId �
 is_of_another returns plan ranks inputs bundle place =
     option_map_or (λ line. is_none (rank_at ranks line) && not (number_in returns plan line == bundle)) (line_at inputs place) false
 
+-- one of the two, by whether a bundle is given
+abbrev pub is_next : ReturnRule → Topology → Ranks → List InputId → Option ℕ → ℕ → Bool
+is_next returns plan ranks inputs None place = is_open ranks inputs place
+is_next returns plan ranks inputs (Some bundle) place = is_of_another returns plan ranks inputs bundle place
+
 -- the input at a place is this line, and it has no rank
 pub record IsOpenLine (ranks : Ranks) (inputs : List InputId) (place line : ℕ) : Type 0 where
   pub here : line_at inputs place ≡ Some line

@@ -1,6 +1,6 @@
 -- Private to this crate: what is kept of what each element shows, and what is noted after a step.
 use Rattle.std.specs.Prelude.{◌≡◌, ◌≤◌, ◌<◌, ℕ, Bool, true, false, nat_eq, List, [], ◌++◌, length, map, filter, slice_index_or, IfSome, ⊤}
-use Rattle.std.specs.List.{IsDistinct, list_any, range_with_len}
+use Rattle.std.specs.List.{All, IsDistinct, list_any, range_with_len}
 use Rattle.sync_ql.specs.Moment.{Moment}
 use Rattle.sync_ql.specs.Told.{moments_until}
 use Rattle.sync_element.specs.ElementState.{ElementState, IsInTime}
@@ -38,13 +38,23 @@ abbrev pub AreShownIf : Watch → NetState → List Shown → Type 0
 AreShownIf Changes net shown = AreShown net shown
 AreShownIf Nothing net shown = ⊤
 
--- the elements at some places were looked at: what they show is kept, for the others nothing changed,
--- and those that show something else are listed once
-pub record AreSeen (net : NetState) (places : List ℕ) (was now : List Shown) (listed : List ℕ) : Type 0 where
+-- a network made a step, before which this was shown by each of its elements
+pub record IsAfterStep (net : NetState) (shown : List Shown) : Type 0 where
+  pub live : net.spent ≡ false
+  pub count : length shown ≡ length net.plan.elements
+  pub within : All (λ element. element < length net.plan.elements) net.evaluated
+  pub apart : IsDistinct nat_eq net.evaluated
+
+-- what the elements at some places show is kept, and for the others nothing changed
+pub record AreRenewed (net : NetState) (places : List ℕ) (was now : List Shown) : Type 0 where
   pub count : length now ≡ length was
   pub seen : (place : ℕ) (other : ElementState) → place < length net.plan.elements → list_any (nat_eq place) places ≡ true
       → Shows net.plan place (slice_index_or net.elements place other) (kept_in net.plan now place)
   pub left : (place : ℕ) → list_any (nat_eq place) places ≡ false → kept_in net.plan now place ≡ kept_in net.plan was place
+
+-- they were looked at, and those that show something else are listed once
+pub record AreSeen (net : NetState) (places : List ℕ) (was now : List Shown) (listed : List ℕ) : Type 0 where
+  pub renewed : AreRenewed net places was now
   pub apart : IsDistinct nat_eq listed
   pub changed : (place : ℕ) → list_any (nat_eq place) listed ≡ shows_other (kept_in net.plan was place) (kept_in net.plan now place)
 
@@ -68,10 +78,3 @@ pub record IsTooMuch (net : NetState) (t : ℕ) (was now : List Shown) (before a
 abbrev pub AreNoted : Bool → NetState → ℕ → List Shown → List Shown → List Change → List Change → Type 0
 AreNoted true net t was now before after = IsNoted net t was now before after
 AreNoted false net t was now before after = IsTooMuch net t was now before after
-
--- the elements that a step evaluated, and only they, show what they may not have shown before
-pub record AreRenewed (net : NetState) (was now : List Shown) : Type 0 where
-  pub count : length now ≡ length was
-  pub seen : (place : ℕ) (other : ElementState) → place < length net.plan.elements → list_any (nat_eq place) net.evaluated ≡ true
-      → Shows net.plan place (slice_index_or net.elements place other) (kept_in net.plan now place)
-  pub left : (place : ℕ) → list_any (nat_eq place) net.evaluated ≡ false → kept_in net.plan now place ≡ kept_in net.plan was place

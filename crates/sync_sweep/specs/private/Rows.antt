@@ -1,5 +1,5 @@
 -- Private to this crate: the rows of what the engine gives.
-use Rattle.std.specs.Prelude.{◌≡◌, Some}
+use Rattle.std.specs.Prelude.{◌≡◌}
 use Rattle.sync_sweep.specs.declared.row.SweepRow.{SweepRow}
 use Rattle.sync_sweep.specs.declared.studying.StudyRow.{StudyRow}
 use Rattle.sync_sweep.specs.declared.working.Worked.{Worked}
@@ -11,5 +11,5 @@ IsRowOf worked row = row.outcome ≡ worked.outcome
 -- and one of a study its timing too, and what the case costs on the way
 pub record IsStudyRowOf (worked : Worked) (row : StudyRow) : Type 0 where
   pub outcome : row.outcome ≡ worked.outcome
-  pub timing : worked.timing ≡ Some row.timing
+  pub timing : row.timing ≡ worked.timing
   pub way : row.way ≡ worked.way

@@ -4,7 +4,7 @@ use Rattle.closed_walks.specs.Taking.{taken_in_list}
 use Rattle.sync_net.specs.NetState.{NetState}
 use Rattle.settle_trace.specs.Taking.{AreTaking}
 use Rattle.sync_sweep.specs.declared.timed.Timed.{Timed}
-use Rattle.sync_sweep.specs.Timing.{IsTiming}
+use Rattle.timings.specs.Timing.{IsTiming}
 
 pub record IsTimed (net : NetState) (timed : Timed) : Type 0 where
   pub taken : AreTaking net timed.taken.items

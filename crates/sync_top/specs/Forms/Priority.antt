@@ -1,5 +1,5 @@
 -- The answers to `prio-check`, `prio-rank` and `prio-sim`: of networks whose elements choose by priority alone.
-use Rattle.std.specs.Prelude.{◌≡◌, ℕ, ◌≤◌, ⊤, List, length, Option, Some, Ok}
+use Rattle.std.specs.Prelude.{◌≡◌, ℕ, ◌≤◌, List, length, Option, Some, Ok}
 use Rattle.sync_edge.specs.Contents.{Contents}
 use Rattle.sync_topo.specs.declared.event.Event.{Event}
 use Rattle.sync_topo.specs.Topology.{Topology}
@@ -18,7 +18,7 @@ use Rattle.sync_top.specs.declared.status.Status.{Status}
 use Rattle.sync_top.specs.Status.{OnDoneOrRefuted}
 use Rattle.sync_top.specs.declared.form.FileForm.TheVariants as asks
 use Rattle.sync_top.specs.declared.form.RanksForm.TheVariants.{PrioCheck}
-use Rattle.sync_top.specs.Form.{Form, on_file}
+use Rattle.sync_top.specs.Form.{Form, PlanName, on_file}
 use Rattle.sync_top.specs.Reading.{file_limit, plan_in}
 use Rattle.sync_top.specs.Forms.Check.{IsVerdictOver}
 
@@ -49,6 +49,6 @@ IsPriorityRun plan events until status text = OnDoneOrRefuted status (IsPriority
 -- where the words ask to check a plan for elements that choose by priority alone, one is read, and no timing loop can
 -- form in it
 abbrev pub IsCheckedForPriority : Option Form → Contents → Type 0
-IsCheckedForPriority (Some (on_file (asks.Ranks PrioCheck) plan_name certificate_name)) files =
-    (plan : Topology) × (plan_in plan_name files ≡ Ok plan) × NeverLoops plan
-IsCheckedForPriority form files = ⊤
+IsCheckedForPriority form files =
+    (plan_name : PlanName) (certificate_name : List ℕ) → form ≡ Some (on_file (asks.Ranks PrioCheck) plan_name certificate_name)
+    → (plan : Topology) × (plan_in plan_name files ≡ Ok plan) × NeverLoops plan

@@ -27,8 +27,8 @@ loop-element-preserved c =
     seen-more c.args.net.now (take i places) (take (i + 1) places) c.args.shown.now.items c.loop-element.shown.items c.loop-element.changed.items c.list_if.new.listed.items
     (slice_index items i) c.index-was.result.now now
     (λ e. list_any_more (nat_eq e) places i 0 inside ∙ ap (λ k. list_any (nat_eq e) (take i places) || nat_eq e k) (sym at))
-    (subst (λ k. list_any (nat_eq k) (take i places) ≡ false) (sym at) (not_before i places c.requires.apart inside))
-    (omega (arith, c.requires.within i 0 inside, at, c.loop-element.invariant.count, c.requires.count))
+    (subst (λ k. list_any (nat_eq k) (take i places) ≡ false) (sym at) (not_before i places c.requires.after_step.apart inside))
+    (omega (arith, c.requires.after_step.within i 0 inside, at, c.loop-element.invariant.renewed.count, c.requires.after_step.count))
     c.index-was.ensures
     shows
     (c.in_ok-list_if.ensures ∙ ap (λ told. if told then c.loop-element.changed.items ++ slice_index items i ∷ [] else c.loop-element.changed.items) c.shows_other.ensures)

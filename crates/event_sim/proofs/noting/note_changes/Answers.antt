@@ -14,7 +14,7 @@ add_rows-requires c = record {
   within =
       let n = c.args.net.now.plan in
       let shown : List Shown = c.find_changed.new.shown.items in
-      let count : length n.elements ≡ length shown = sym (c.in_ok-find_changed.ensures.renewed.count ∙ c.requires.count) in
+      let count : length n.elements ≡ length shown = sym (c.in_ok-find_changed.ensures.renewed.count ∙ c.requires.after_step.count) in
       let inside : All (λ place. place < length shown) c.find_changed.new.changed.items =
       subst (All (λ place. place < length shown)) (sym c.in_ok-find_changed.ensures.changed) (others-within n c.args.shown.now.items shown (length shown) count) in
       let all : All (λ place. place < length c.as_slice-2.result.now) c.find_changed.new.changed.items =

@@ -9,14 +9,14 @@ use Rattle.inspection.proofs.Accessors.{at-until}
 use Rattle.inspection.proofs.elements.put_elements.Goals as goal
 
 pub loop-element-preserved : goal.loop-element-preserved
-loop-element-preserved c = λ all is.
+loop-element-preserved c = λ all until is.
     let plan = c.args.net.now.plan in
     let signals = signals_by plan all in
     let out = out_at plan signals in
     let e = c.loop-element.element in
-    let seen : c.inspected-it.result ≡ element_in plan signals out c.args.until e =
-    at-until (element_after plan e) plan signals out e c.args.until c.element.result.now c.inspected-it.result (c.element.ensures.stands all (c.args.until + 1) is)
+    let seen : c.inspected-it.result ≡ element_in plan signals out until e =
+    at-until (element_after plan e) plan signals out e until c.element.result.now c.inspected-it.result (c.element.ensures.stands all (until + 1) is)
     (λ past n stands in_time later. (rw c.plan-plan.ensures at c.inspected-it.ensures.chose) past n stands in_time) in
     c.in_ok-put_row.ensures.put
-    ∙ one-number (λ element. element_row plan element (element_in plan signals out c.args.until element)) e (c.args.text.now ++ codes "elements\n") c.loop-element.text _ (c.loop-element.invariant all is)
+    ∙ one-number (λ element. element_row plan element (element_in plan signals out until element)) e (c.args.text.now ++ codes "elements\n") c.loop-element.text _ (c.loop-element.invariant all until is)
     (ap (λ (p : Topology). element_row p e c.inspected-it.result) c.plan-plan.ensures ∙ ap (element_row plan e) seen)

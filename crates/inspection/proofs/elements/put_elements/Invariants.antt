@@ -1,4 +1,4 @@
-use Rattle.std.proofs.Common.{◌≡◌, ◌+◌, ◌++◌, List, map}
+use Rattle.std.proofs.Common.{◌≡◌, ◌+◌, ◌++◌, ℕ, List, map}
 use Rattle.std.specs.Prelude.{codes}
 use Rattle.std.specs.List.{concat, range_with_len}
 use Rattle.sync_topo.specs.declared.event.Event.{Event}
@@ -10,6 +10,6 @@ use Rattle.inspection.proofs.elements.put_elements.Given as goal
 
 -- the rows of the elements so far
 abbrev pub invariant-loop-element : goal.invariant-loop-element
-invariant-loop-element l = (all : List Event) → StandsFor l.net all (l.until + 1)
+invariant-loop-element l = (all : List Event) (until : ℕ) → StandsFor l.net all (until + 1)
     → l.text ≡ l.fn.text ++ codes "elements\n"
-    ++ concat (map (λ element. element_row l.net.plan element (element_in l.net.plan (signals_by l.net.plan all) (out_at l.net.plan (signals_by l.net.plan all)) l.until element)) (range_with_len 0 l.element))
+    ++ concat (map (λ element. element_row l.net.plan element (element_in l.net.plan (signals_by l.net.plan all) (out_at l.net.plan (signals_by l.net.plan all)) until element)) (range_with_len 0 l.element))

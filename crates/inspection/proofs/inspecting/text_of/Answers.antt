@@ -14,7 +14,7 @@ returns c = record {
       let at = c.args.at in
       let here : StandsFor net all (at + 1) = subst (StandsFor net all) (more at) stands in
       c.in_ok-put_inputs.ensures.put all here
-      ∙ ap (λ t. t ++ inputs_part plan all at) (c.in_ok-put_elements.ensures.put all here)
+      ∙ ap (λ t. t ++ inputs_part plan all at) (c.in_ok-put_elements.ensures.put all at here)
       ∙ ap (λ t. t ++ elements_part plan all at ++ inputs_part plan all at)
       (c.in_ok-put_commands.ensures.put
       ∙ ap (λ t. t ++ commands_told c.plan.result.now c.args.told.now) c.new-text.ensures

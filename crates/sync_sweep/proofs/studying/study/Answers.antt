@@ -1,21 +1,14 @@
-use Rattle.std.proofs.Common.{◌≡◌, ℕ, true, List, length, sym, subst}
-use Rattle.std.specs.Prelude.{is_some}
+use Rattle.std.proofs.Common.{◌≡◌, ℕ, length, sym, subst}
 use Rattle.std.specs.List.{All, AllZip}
 use Rattle.std.proofs.lemmas.Result.{IfOk-weaker}
 use Rattle.sync_sweep.specs.declared.studying.StudyRow.{StudyRow}
-use Rattle.sync_sweep.specs.declared.working.Worked.{Worked}
 use Rattle.sync_sweep.specs.private.Rows.{IsStudyRowOf}
 use Rattle.sync_sweep.specs.Study.{IsStudyRow, AreStudyRows, IsOfPlan}
+use Rattle.timings.specs.Timing.{IsTiming}
 use Rattle.sync_sweep.specs.private.Working.{AreWorked, IsSettledIfDue}
 use Rattle.sync_sweep.proofs.ChunkLemmas.{zip-length}
-use Rattle.sync_sweep.proofs.StudyLemmas.{all-timed, rows-of-cases}
+use Rattle.sync_sweep.proofs.StudyLemmas.{rows-of-cases}
 use Rattle.sync_sweep.proofs.studying.study.Goals as goal
-
-pub study_rows-requires : goal.study_rows-requires
-study_rows-requires g c = record {
-  timed = subst (λ (list : List Worked). All (λ one. is_some one.timing ≡ true) list) (sym c.as_slice.ensures)
-      (all-timed c.args.plan.now c.args.common.now c.args.until true c.args.cases.now c.in_ok-worked.worked c.in_ok-worked.ensures.worked);
-}
 
 pub returns : goal.returns
 returns g c =
@@ -24,15 +17,15 @@ returns g c =
     let cases = c.args.cases.now in
     let until : ℕ = c.args.until in
     let list = c.as_slice.result.now in
-    let worked : AreWorked plan common until true cases list = subst (AreWorked plan common until true cases) (sym c.as_slice.ensures) c.in_ok-worked.ensures.worked in
+    let worked : AreWorked IsTiming plan common until cases list = subst (AreWorked IsTiming plan common until cases) (sym c.as_slice.ensures) c.in_ok-worked.ensures.worked in
     record {
       rows = IfOk-weaker c.study_rows.result (AllZip IsStudyRowOf list) (AreStudyRows plan common until cases)
-          (λ rows same. (rows-of-cases plan common until true cases list rows worked same).0) c.study_rows.ensures;
+          (λ rows same. (rows-of-cases plan common until cases list rows worked same).0) c.study_rows.ensures;
       count = IfOk-weaker c.study_rows.result (AllZip IsStudyRowOf list) (λ rows. length rows ≡ length cases)
           (λ rows same. sym (zip-length (λ case. IsStudyRow plan common case.events until) cases rows
-          (rows-of-cases plan common until true cases list rows worked same).0)) c.study_rows.ensures;
+          (rows-of-cases plan common until cases list rows worked same).0)) c.study_rows.ensures;
       of_plan = IfOk-weaker c.study_rows.result (AllZip IsStudyRowOf list) (All (IsOfPlan plan))
-          (λ rows same k d within. ((rows-of-cases plan common until true cases list rows worked same).1 k d within).of_plan) c.study_rows.ensures;
+          (λ rows same k d within. ((rows-of-cases plan common until cases list rows worked same).1 k d within).of_plan) c.study_rows.ensures;
       bound = IfOk-weaker c.study_rows.result (AllZip IsStudyRowOf list) (All (λ (row : StudyRow). IsSettledIfDue until row.outcome))
-          (λ rows same k d within. ((rows-of-cases plan common until true cases list rows worked same).1 k d within).due) c.study_rows.ensures;
+          (λ rows same k d within. ((rows-of-cases plan common until cases list rows worked same).1 k d within).due) c.study_rows.ensures;
     }

@@ -1,4 +1,4 @@
-use Rattle.std.proofs.Common.{◌<◌, ◌++◌, ℕ, [], ◌∷◌, length, take, arith, ap, sym, ◌∙◌}
+use Rattle.std.proofs.Common.{◌<◌, ◌++◌, ℕ, [], ◌∷◌, length, take, arith, refl, ap, sym, ◌∙◌}
 use Rattle.std.proofs.lemmas.List.{take_more}
 use Rattle.sync_sweep.specs.private.Rows.{IsStudyRowOf}
 use Rattle.sync_sweep.proofs.ChunkLemmas.{AllZip-next}
@@ -10,5 +10,5 @@ loop-one-preserved c =
     let i : ℕ = c.loop-one.one-index in
     let one = c.one-item.result in
     let within : i < length worked = omega (arith, c.loop-one-test.true) in
-    AllZip-next IsStudyRowOf worked i one c.loop-one.rows c.study_row.result c.push.new.self
-    within c.loop-one.invariant c.study_row.ensures (take_more worked i one within ∙ ap (λ x. take i worked ++ x ∷ []) (sym c.one-item.is)) c.in_ok-push.ensures.ok
+    AllZip-next IsStudyRowOf worked i one c.loop-one.rows (record { outcome = one.outcome; timing = one.timing; way = one.way }) c.push.new.self
+    within c.loop-one.invariant (record { outcome = refl; timing = refl; way = refl }) (take_more worked i one within ∙ ap (λ x. take i worked ++ x ∷ []) (sym c.one-item.is)) c.in_ok-push.ensures.ok

@@ -1,7 +1,10 @@
 use Rattle.sync_top.specs.declared.trial.TheConstants.{TRIAL_END}
 use Rattle.sync_top.specs.Forms.Trial.{trial_events}
-use Rattle.sync_top.proofs.RunLaws.{report_rows, run-text}
+use Rattle.sync_top.proofs.RunLaws.{events-listed, report_rows, run-text}
 use Rattle.sync_top.proofs.trial.put_run.Goals as goal
+
+pub run_to-requires-clause-events : goal.run_to-requires-clause-events
+run_to-requires-clause-events c = events-listed c.args.plan.now c.requires.link
 
 pub returns : goal.returns
 returns c =

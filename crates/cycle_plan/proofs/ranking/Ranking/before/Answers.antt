@@ -9,8 +9,8 @@ first_open-watch-requires-clause-within c = rw c.requires.done.peeling.ranked.co
 pub first_open-watch-requires-clause-watch : goal.first_open-watch-requires-clause-watch
 first_open-watch-requires-clause-watch c =
     rw c.inputs_of-inputs.ensures.inputs
-    (c.requires.done.peeling.watched c.from-sender.result c.index.result.now
-    (slice_get_read c.args.self.now.watches.items (length c.args.plan.now.elements) c.from-sender.result c.index.result.now (sym c.requires.done.peeling.watches) c.from-sender.ensures.within c.index.ensures)).watched
+    (c.requires.done.peeling.watched c.from-sender.result c.index-known.result.now
+    (slice_get_read c.args.self.now.watches.items (length c.args.plan.now.elements) c.from-sender.result c.index-known.result.now (sym c.requires.done.peeling.watches) c.from-sender.ensures.within c.index-known.ensures)).watched
 
 pub unreachable-requires : goal.unreachable-requires
 unreachable-requires c =

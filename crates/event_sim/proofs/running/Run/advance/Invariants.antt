@@ -1,4 +1,4 @@
-use Rattle.std.proofs.Common.{◌≡◌, ◌≤◌, ◌+◌, ◌-◌, ℕ, List}
+use Rattle.std.proofs.Common.{◌≡◌, ◌≤◌, ◌+◌, ◌-◌, List}
 use Rattle.std.specs.List.{All}
 use Rattle.event_sim.specs.Changes.{IsChangeOf}
 use Rattle.sync_topo.specs.declared.event.Event.{Event}

@@ -1,6 +1,0 @@
-use Rattle.std.proofs.Common.{◌≡◌, ℕ, ◌<◌, ◌≤◌, false}
-use Rattle.cycle_plan.specs.private.Inputs.{is_of_another}
-use Rattle.cycle_plan.proofs.inputs.next_other.Given as goal
-
-abbrev pub invariant-loop-place : goal.invariant-loop-place
-invariant-loop-place l = (place : ℕ) → l.from ≤ place → place < l.place → is_of_another l.returns l.plan l.cert l.inputs l.bundle place ≡ false

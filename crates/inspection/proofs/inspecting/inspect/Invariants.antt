@@ -1,5 +1,0 @@
-use Rattle.inspection.proofs.inspecting.inspect.Given as goal
-
--- the steps are counted on the blank's own ledger
-abbrev pub ghosts-run_counted : goal.ghosts-run_counted
-ghosts-run_counted a = record { name = a.blank.name; parts = a.blank.parts }

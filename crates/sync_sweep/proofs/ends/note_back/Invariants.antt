@@ -1,6 +1,0 @@
-use Rattle.closed_walks.specs.Taking.{taken_in_list}
-use Rattle.sync_sweep.specs.private.Ends.{AreEndsNoted}
-use Rattle.sync_sweep.proofs.ends.note_back.Given as goal
-
-abbrev pub invariant-loop-element : goal.invariant-loop-element
-invariant-loop-element l = AreEndsNoted l.plan (taken_in_list l.taken) l.known l.lines l.lost

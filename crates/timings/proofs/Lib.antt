@@ -1,0 +1,3 @@
+pub mod TimingLemmas
+pub mod EndsLemmas
+pub mod FoundLemmas
