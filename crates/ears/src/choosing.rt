@@ -13,7 +13,7 @@ use sync_topo::{InputId, LineId, Plan};
 ///
 /// A bundle goes by its lowest-numbered link. This project's own.
 #[derive(Drop)]
-pub struct Choice {
+pub struct EarChoice {
     /// For each element the bundle of its neighbour in the tree, if it has one.
     pub firsts: Vec<Option<u32>>,
     /// For each element the bundle of its other neighbour on its ear, if it has one.
@@ -29,13 +29,13 @@ pub struct Choice {
 /// room for. `outputs` has the lines out of each element. Which priorities are found isn't promised. The work grows with the elements, the links
 /// and the sources, and with the depth of the tree as its logarithm. This project's own, with ears
 /// after Whitney, and their order after Maon, Schieber and Vishkin, and Ramachandran.
-pub fn choose(alloc: Global, plan: &Plan, outputs: &[Vec<LineId>]) -> Result<Choice, NoMemory> {
+pub fn choose(alloc: Global, plan: &Plan, outputs: &[Vec<LineId>]) -> Result<EarChoice, NoMemory> {
     let tree = Tree::of(alloc, plan, outputs)?;
     let ears = Ears::of(alloc, plan, &tree)?;
     let Ok(priorities) = vec![in alloc; 0; plan.lines() as usize] else {
         return Err(NoMemory);
     };
-    let mut choice = Choice {
+    let mut choice = EarChoice {
         firsts: bundles_of(alloc, plan, &tree)?,
         seconds: ears.seconds,
         priorities,
@@ -55,7 +55,7 @@ struct Numbers {
     room: u32,
 }
 
-impl Choice {
+impl EarChoice {
     /// Numbers the lines into each element.
     fn number_all(&mut self, plan: &Plan, outputs: &[Vec<LineId>]) {
         for element in 0..plan.elements() {

@@ -14,4 +14,4 @@ mod choosing;
 mod laying;
 mod tree;
 
-pub use choosing::{Choice, choose};
+pub use choosing::{EarChoice, choose};

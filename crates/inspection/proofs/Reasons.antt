@@ -23,7 +23,7 @@ use Rattle.net_rules.specs.History.{Levels, settings_of, heard, moment_at, eleme
 use Rattle.net_rules.proofs.NetLaws.{many-inputs, failed-at, level-at}
 use Rattle.net_words.proofs.DistinctInputs.{place-at, input-of}
 use Rattle.shown_words.specs.Sameness.{is_same_taken}
-use Rattle.inspection.specs.declared.verdicts.Verdict.TheVariants.{BelowFloor, Reserve, DoNotUse}
+use Rattle.inspection.specs.declared.verdicts.InputVerdict.TheVariants.{BelowFloor, Reserve, DoNotUse}
 use Rattle.inspection.specs.Verdict.{verdict_of, is_place, verdict_at, verdict_in, MayBeUsed}
 
 -- by the level of an input that is free and good

@@ -1,16 +1,16 @@
 //! The elements, each with what it chose.
 
-ghost use Rattle.std.specs.Prelude.{◌≡◌, ◌<◌, ◌+◌, ◌++◌, ℕ, false, List, length, IfSome, OnOk, option_and_then, slice_get};
+ghost use Rattle.std.specs.Prelude.{◌≡◌, ◌<◌, ◌+◌, ◌++◌, ℕ, false, List, length, IfSome, OnOk};
 ghost use Rattle.sync_ql.specs.Moment.{Moment};
 ghost use Rattle.sync_ql.specs.Told.{moments_until};
 ghost use Rattle.sync_element.specs.ElementState.{IsInTime};
 ghost use Rattle.sync_element.specs.StandsFor.{StandsFor as ElementStandsFor};
 ghost use Rattle.sync_topo.specs.declared.event.Event.{Event};
-ghost use Rattle.sync_topo.specs.Lines.{inputs_of, IsInput};
+ghost use Rattle.sync_topo.specs.Lines.{IsInput};
 ghost use Rattle.sync_net.specs.Standing.{StandsFor};
 ghost use Rattle.inspection.specs.Inspection.{element_after, element_row, elements_part, clock_text};
 
-use net_words::taken_of;
+use net_words::{input_at, taken_of};
 use shown_words::{put_choice, put_taken, state_column};
 use std::alloc::Global;
 use sync_element::Element;
@@ -66,18 +66,6 @@ fn inspected(plan: &Plan, number: u32, element: &Element) -> InspectedElement
         taken: taken_of(plan, number, element),
         level: element.level(),
         state: element.state(),
-    }
-}
-
-/// The input at a place of an element.
-fn input_at(plan: &Plan, element: u32, place: Option<u32>) -> Option<InputId>
-    requires within { element < length plan.now.elements }
-    ensures input { result ≡ option_and_then (slice_get (inputs_of plan.now element)) place }
-    ensures within { IfSome result (IsInput plan.now) }
-{
-    match place {
-        Some(place) => plan.inputs(element).get(place as usize).copied(),
-        None => None,
     }
 }
 

@@ -8,7 +8,7 @@ ghost use Rattle.net_rules.specs.History.{settings_of, out_at};
 ghost use Rattle.sync_net.specs.Standing.{ElementStands, StandsFor};
 ghost use Rattle.inspection.specs.Inspection.{inputs_part, rows_in, inspected_row, level_word};
 
-use crate::verdicts::{Verdict, verdict_of, verdict_word};
+use crate::verdicts::{InputVerdict, verdict_of, verdict_word};
 use std::alloc::Global;
 use sync_element::Element;
 use sync_net::Net;
@@ -27,7 +27,7 @@ pub struct InspectedInput {
     /// The level that is heard on it, or that its source has.
     pub level: Option<Level>,
     /// Why it is taken, or isn't.
-    pub verdict: Verdict,
+    pub verdict: InputVerdict,
 }
 
 /// Puts the inputs of all elements, as they are in the millisecond of the last step.

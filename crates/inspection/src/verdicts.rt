@@ -18,7 +18,7 @@ use sync_ql::{Level, better, do_not_use};
 /// After G.781, selected input, lockout, signal fail and quality level; the floor, and the order,
 /// are this project's own.
 #[derive(Clone, Copy, Debug, PartialEq, Eq)]
-pub enum Verdict {
+pub enum InputVerdict {
     /// It is taken.
     Taken,
     /// It is locked out.
@@ -36,23 +36,23 @@ pub enum Verdict {
 }
 
 /// The word for it.
-pub(crate) fn verdict_word(verdict: Verdict) -> &'static [u8]
+pub(crate) fn verdict_word(verdict: InputVerdict) -> &'static [u8]
     ensures { result.now ≡ verdict_word verdict }
 {
     match verdict {
-        Verdict::Taken => b"taken",
-        Verdict::LockedOut => b"locked-out",
-        Verdict::Failed => b"failed",
-        Verdict::Silent => b"silent",
-        Verdict::DoNotUse => b"do-not-use",
-        Verdict::BelowFloor => b"below-floor",
-        Verdict::Reserve => b"reserve",
+        InputVerdict::Taken => b"taken",
+        InputVerdict::LockedOut => b"locked-out",
+        InputVerdict::Failed => b"failed",
+        InputVerdict::Silent => b"silent",
+        InputVerdict::DoNotUse => b"do-not-use",
+        InputVerdict::BelowFloor => b"below-floor",
+        InputVerdict::Reserve => b"reserve",
     }
 }
 
 /// Why an element takes the input at a place or doesn't, as from its last step up to but not at
 /// `due`, if nothing is told.
-pub(crate) fn verdict_of(element: &Element, place: u32) -> Verdict
+pub(crate) fn verdict_of(element: &Element, place: u32) -> InputVerdict
     requires place { place < inputs_of element.now }
     ensures verdict { (past : List Moment) (n : ℕ) → StandsFor element.now past →
         IsInTime element.now n → 0 < n → result ≡ verdict_at element.now.settings
@@ -74,36 +74,36 @@ fn first_reason(
     failed: bool,
     floor: Option<Level>,
     level: Option<Level>,
-) -> Verdict
+) -> InputVerdict
     requires options { SameOption floor level }
     ensures { result ≡ verdict_of taken locked failed floor level }
 {
     if taken {
-        return Verdict::Taken;
+        return InputVerdict::Taken;
     }
     if locked {
-        return Verdict::LockedOut;
+        return InputVerdict::LockedOut;
     }
     if failed {
-        return Verdict::Failed;
+        return InputVerdict::Failed;
     }
     level_verdict(floor, level)
 }
 
 /// What its level says of an input that is free and good.
-fn level_verdict(floor: Option<Level>, level: Option<Level>) -> Verdict
+fn level_verdict(floor: Option<Level>, level: Option<Level>) -> InputVerdict
     requires options { SameOption floor level }
     ensures { result ≡ level_verdict floor level }
 {
     let Some(level) = level else {
-        return Verdict::Silent;
+        return InputVerdict::Silent;
     };
     if !better(level, do_not_use(level.option)) {
-        return Verdict::DoNotUse;
+        return InputVerdict::DoNotUse;
     }
     match floor {
-        Some(floor) if better(floor, level) => Verdict::BelowFloor,
-        _ => Verdict::Reserve,
+        Some(floor) if better(floor, level) => InputVerdict::BelowFloor,
+        _ => InputVerdict::Reserve,
     }
 }
 

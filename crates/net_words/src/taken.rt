@@ -6,7 +6,7 @@ ghost use Rattle.sync_ql.specs.Told.{FitsElement, moments_until};
 ghost use Rattle.sync_element.specs.ElementState.{IsInTime};
 ghost use Rattle.sync_element.specs.StandsAfter.{IsStepped};
 ghost use Rattle.sync_element.specs.StandsFor.{StandsFor};
-ghost use Rattle.sync_topo.specs.Lines.{IsInput};
+ghost use Rattle.sync_topo.specs.Lines.{IsInput, inputs_of};
 ghost use Rattle.net_rules.specs.Settings.{taken_with};
 
 use std::marker::Brand;
@@ -24,15 +24,17 @@ pub fn taken_of(plan: &Plan, number: u32, element: &Element) -> Option<InputId>
         (moments_until element.now.settings n past) }
     ensures input { IfSome result (IsInput plan.now) }
 {
-    input_at(plan.inputs(number), element.selected())
+    input_at(plan, number, element.selected())
 }
 
-/// The input at a place.
-fn input_at(inputs: &[InputId], place: Option<u32>) -> Option<InputId>
-    ensures { result ≡ option_and_then (slice_get inputs.now) place }
+/// The input of the plan that stands at a place among those of an element. This project's own.
+pub fn input_at(plan: &Plan, element: u32, place: Option<u32>) -> Option<InputId>
+    requires { element < length plan.now.elements }
+    ensures input { result ≡ option_and_then (slice_get (inputs_of plan.now element)) place }
+    ensures within { IfSome result (IsInput plan.now) }
 {
     match place {
-        Some(place) => inputs.get(place as usize).copied(),
+        Some(place) => plan.inputs(element).get(place as usize).copied(),
         None => None,
     }
 }

@@ -19,7 +19,7 @@ use Rattle.node_file.specs.declared.row.NodeRow.{NodeRow}
 use Rattle.node_file.specs.NodeRow.{events_in}
 use Rattle.node_replay.specs.declared.inputs.InputNow.{InputNow}
 use Rattle.node_replay.specs.declared.lines_out.LineOut.{LineOut}
-use Rattle.node_replay.specs.declared.running.Run.{Run}
+use Rattle.node_replay.specs.declared.running.NodeRun.{NodeRun}
 use Rattle.node_rules.specs.Replay.{signals_in, heard_in}
 use Rattle.node_rules.specs.NodeText.{lines_out}
 use Rattle.node_replay.specs.private.Starting.{new_input, new_out}
@@ -39,7 +39,7 @@ new-kept : (plan : Topology) (input : InputId) → IsWellFormed plan → IsKeptO
 new-kept plan (Line line) well = record { level = tt; last = tt }
 new-kept plan (Source source) well = record { level = planned-option plan source well; last = planned-option plan source well }
 
-pub begun : (plan : Topology) (place : ℕ) (run : Run) → IsWellFormed plan → IsNewElement (by_levels plan) plan place run.element → Shows plan place run.element run.shown
+pub begun : (plan : Topology) (place : ℕ) (run : NodeRun) → IsWellFormed plan → IsNewElement (by_levels plan) plan place run.element → Shows plan place run.element run.shown
     → run.inputs.items ≡ map (new_input plan) (inputs_of plan place) → run.lines_out.items ≡ map new_out (lines_out plan place)
     → run.next ≡ 0 → run.wake ≡ 0 → run.rows ≡ 0 → IsRun plan place run
 unfolding settings_of
@@ -87,7 +87,7 @@ unfolding settings_of
 new-past plan place rows element new =
     stands-new (settings_of plan place) (moment_at plan (signals_in plan rows) (heard_in plan rows) place) element new.settings new.next new.due new.stands
 
-pub begun-stands : (plan : Topology) (place : ℕ) (run : Run) → IsNewElement (by_levels plan) plan place run.element
+pub begun-stands : (plan : Topology) (place : ℕ) (run : NodeRun) → IsNewElement (by_levels plan) plan place run.element
     → run.inputs.items ≡ map (new_input plan) (inputs_of plan place) → run.lines_out.items ≡ map new_out (lines_out plan place)
     → run.text ≡ [] → run.rows ≡ 0 → (rows : List NodeRow) → RunStands plan rows place 0 run
 begun-stands plan place run new inputs outs text count rows = record {

@@ -9,7 +9,7 @@ use Rattle.sync_element.proofs.ElementSteps.{stands-stepped, stands-quiet}
 use Rattle.sync_topo.specs.Topology.{Topology}
 use Rattle.net_rules.specs.History.{settings_of, moment_at, taken_by}
 use Rattle.node_file.specs.declared.row.NodeRow.{NodeRow}
-use Rattle.node_replay.specs.declared.shown.Shown.{Shown}
+use Rattle.node_replay.specs.declared.shown.InputAndLevel.{InputAndLevel}
 use Rattle.node_rules.specs.Replay.{signals_in, heard_in, node_past}
 use Rattle.node_replay.specs.Running.{IsOfPast}
 use Rattle.node_replay.specs.private.Running.{Shows}
@@ -29,11 +29,11 @@ quiet-past plan rows place n element in_time told is =
     stands-quiet (settings_of plan place) (moment_at plan (signals_in plan rows) (heard_in plan rows) place) n element in_time is (sym told)
 
 -- what the element gives after n milliseconds
-pub record Gives (plan : Topology) (rows : List NodeRow) (place n : ℕ) (shown : Shown) : Type 0 where
+pub record Gives (plan : Topology) (rows : List NodeRow) (place n : ℕ) (shown : InputAndLevel) : Type 0 where
   pub taken : shown.taken ≡ taken_by plan place (node_past plan rows place n)
   pub level : shown.level ≡ clock_level_at (settings_of plan place) (node_past plan rows place n)
 
-pub gives : (plan : Topology) (rows : List NodeRow) (place n : ℕ) (element : ElementState) (shown : Shown) → Shows plan place element shown
+pub gives : (plan : Topology) (rows : List NodeRow) (place n : ℕ) (element : ElementState) (shown : InputAndLevel) → Shows plan place element shown
     → IsOfPast plan rows place n element → Gives plan rows place n shown
 gives plan rows place n element shown shows is = record {
   taken = shows.taken (node_past plan rows place element.next) n is.stands is.in_time ∙ ap (taken_by plan place) (sym is.quiet);

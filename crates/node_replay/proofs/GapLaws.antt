@@ -18,8 +18,8 @@ use Rattle.node_file.specs.NodeRow.{rows_at}
 use Rattle.node_replay.specs.declared.inputs.LastLevel.{LastLevel}
 use Rattle.node_replay.specs.declared.inputs.InputNow.{InputNow}
 use Rattle.node_replay.specs.declared.lines_out.LineOut.{LineOut}
-use Rattle.node_replay.specs.declared.shown.Shown.{Shown}
-use Rattle.node_replay.specs.declared.running.Run.{Run}
+use Rattle.node_replay.specs.declared.shown.InputAndLevel.{InputAndLevel}
+use Rattle.node_replay.specs.declared.running.NodeRun.{NodeRun}
 use Rattle.node_rules.specs.NodeText.{frame_row, sending_at, rows_before}
 use Rattle.node_replay.specs.Rows.{IsRowList}
 use Rattle.node_replay.specs.private.Keeping.{last_after, level_after, input_after, said_by, out_after, frame_for, frame_of, sent_row}
@@ -58,33 +58,33 @@ no-frame : (t : ℕ) (line : LineId) (said : Option Level) → nat_eq (t % secon
 no-frame t line None rest = refl
 no-frame t line (Some level) rest = rw (same-level (Some level), rest) refl
 
-no-frame-of : (plan : Topology) (shown : Shown) (t : ℕ) (out : LineOut) → nat_eq (t % second) 0 ≡ false
+no-frame-of : (plan : Topology) (shown : InputAndLevel) (t : ℕ) (out : LineOut) → nat_eq (t % second) 0 ≡ false
     → out.said ≡ said_by plan shown out.line.0 (out.up && out.esmc) → frame_of t (out_after plan [] shown out) ≡ None
 unfolding frame_of out_after
 no-frame-of plan shown t out rest given =
     ap (λ was. frame_for t out.line (said_by plan shown out.line.0 (out.up && out.esmc)) (not (is_same_level (said_by plan shown out.line.0 (out.up && out.esmc)) was))) given
     ∙ no-frame t out.line (said_by plan shown out.line.0 (out.up && out.esmc)) rest
 
-no-frames : (plan : Topology) (shown : Shown) (t : ℕ) (outs : List LineOut) → nat_eq (t % second) 0 ≡ false → AreGiven plan shown outs
+no-frames : (plan : Topology) (shown : InputAndLevel) (t : ℕ) (outs : List LineOut) → nat_eq (t % second) 0 ≡ false → AreGiven plan shown outs
     → filter_map (frame_of t) (map (out_after plan [] shown) outs) ≡ []
 no-frames plan shown t [] rest given = refl
 no-frames plan shown t (out ∷ outs) rest given =
     ap (λ o. cons_option o (filter_map (frame_of t) (map (out_after plan [] shown) outs))) (no-frame-of plan shown t out rest given.0) ∙ no-frames plan shown t outs rest given.1
 
 -- the lines are as they were
-out-same : (plan : Topology) (rows : List NodeRow) (place n : ℕ) (shown : Shown) (out : LineOut) → out.said ≡ said_by plan shown out.line.0 (out.up && out.esmc)
+out-same : (plan : Topology) (rows : List NodeRow) (place n : ℕ) (shown : InputAndLevel) (out : LineOut) → out.said ≡ said_by plan shown out.line.0 (out.up && out.esmc)
     → IsOutAt plan rows place n (out_after plan [] shown out) → IsOutAt plan rows place n out
 unfolding out_after
 out-same plan rows place n shown out given is = record { up = is.up; esmc = is.esmc; said = given ∙ is.said }
 
-outs-same : (plan : Topology) (rows : List NodeRow) (place n t : ℕ) (shown : Shown) (outs : List LineOut) → AreGiven plan shown outs
+outs-same : (plan : Topology) (rows : List NodeRow) (place n t : ℕ) (shown : InputAndLevel) (outs : List LineOut) → AreGiven plan shown outs
     → Each (λ out. IsOutAt plan rows place n out × IsSaid plan rows place t out) (map (out_after plan [] shown) outs) → Each (IsOutAt plan rows place n) outs
 outs-same plan rows place n t shown [] given is = tt
 outs-same plan rows place n t shown (out ∷ outs) given is =
     (out-same plan rows place n shown out given.0 is.0.0, outs-same plan rows place n t shown outs given.1 is.1)
 
 -- one quiet millisecond, which is not the first
-module _ (plan : Topology) (place : ℕ) (rows : List NodeRow) (run : Run) (is : IsRun plan place run) (list : IsRowList plan place rows) where
+module _ (plan : Topology) (place : ℕ) (rows : List NodeRow) (run : NodeRun) (is : IsRun plan place run) (list : IsRowList plan place rows) where
   -- where the run goes on quietly, it has begun
   begun : (m : ℕ) → run.next ≤ m → m < run.wake → 0 < run.next
   begun m low high = by run.next refl
@@ -162,7 +162,7 @@ module _ (plan : Topology) (place : ℕ) (rows : List NodeRow) (run : Run) (is :
       (quiet-next (run.next + k) (omega arith) (omega (arith, room)) (away (run.next + k) (omega arith) (omega arith)) before)
 
 -- a run that passes over quiet milliseconds
-pub passed-stands : (plan : Topology) (place to next : ℕ) (rows : List NodeRow) (run after : Run) → IsRun plan place run → AreAway plan place run.next to rows
+pub passed-stands : (plan : Topology) (place to next : ℕ) (rows : List NodeRow) (run after : NodeRun) → IsRun plan place run → AreAway plan place run.next to rows
     → run.next ≤ next → next ≤ to → next ≤ run.wake
     → after.element ≡ run.element → after.inputs.items ≡ run.inputs.items → after.lines_out.items ≡ run.lines_out.items → after.text ≡ run.text → after.rows ≡ run.rows
     → RunStands plan rows place run.next run → RunStands plan rows place next after
@@ -179,7 +179,7 @@ passed-stands plan place to next rows run after is away low until high element i
     }
 
 -- a run that goes on quietly has begun
-pub has-begun : (plan : Topology) (place : ℕ) (run : Run) → IsRun plan place run → run.next < run.wake → 0 < run.next
+pub has-begun : (plan : Topology) (place : ℕ) (run : NodeRun) → IsRun plan place run → run.next < run.wake → 0 < run.next
 has-begun plan place run is quiet = by run.next refl
   where
     by : (n : ℕ) → run.next ≡ n → 0 < run.next

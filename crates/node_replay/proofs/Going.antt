@@ -2,17 +2,17 @@
 use Rattle.std.proofs.Common.{◌≡◌, ◌≤◌, ◌<◌, ℕ, List, [], Option, None, Some, refl, subst, arith}
 use Rattle.sync_topo.specs.Topology.{Topology}
 use Rattle.node_file.specs.declared.row.NodeRow.{NodeRow}
-use Rattle.node_replay.specs.declared.running.Run.{Run}
+use Rattle.node_replay.specs.declared.running.NodeRun.{NodeRun}
 use Rattle.node_replay.specs.Running.{RunStands, RunHolds}
 use Rattle.node_replay.specs.private.Running.{AreHere, AreAway}
 
 -- a run that isn't stopped stands for its milliseconds
-pub going-stands : (plan : Topology) (place until n : ℕ) (rows : List NodeRow) (run : Run) → run.stopped ≡ None
+pub going-stands : (plan : Topology) (place until n : ℕ) (rows : List NodeRow) (run : NodeRun) → run.stopped ≡ None
     → RunHolds plan rows place until n run run.stopped → RunStands plan rows place n run
 going-stands plan place until n rows run going holds = subst (RunHolds plan rows place until n run) going holds
 
 -- and it has come to the end, or is stopped
-pub came-to : (plan : Topology) (place until next to : ℕ) (rows : List NodeRow) (run : Run) → (run.stopped ≡ None → next ≡ to)
+pub came-to : (plan : Topology) (place until next to : ℕ) (rows : List NodeRow) (run : NodeRun) → (run.stopped ≡ None → next ≡ to)
     → RunHolds plan rows place until next run run.stopped → RunHolds plan rows place until to run run.stopped
 came-to plan place until next to rows run end holds = by run.stopped refl holds
   where

@@ -19,7 +19,7 @@ use Rattle.net_words.proofs.SplitWords.{word-until}
 use Rattle.node_file.specs.declared.row.NodeRow.{NodeRow}
 use Rattle.node_file.specs.NodeRow.{events_in, rows_at}
 use Rattle.node_replay.specs.declared.lines_out.LineOut.{LineOut}
-use Rattle.node_replay.specs.declared.shown.Shown.{Shown}
+use Rattle.node_replay.specs.declared.shown.InputAndLevel.{InputAndLevel}
 use Rattle.node_rules.specs.Replay.{node_past, node_out, out_past}
 use Rattle.node_replay.specs.Rows.{AreInOrder}
 use Rattle.node_replay.specs.private.Keeping.{level_out, said_by, out_up, out_esmc, out_after}
@@ -35,7 +35,7 @@ pub record IsSaid (plan : Topology) (rows : List NodeRow) (place t : ℕ) (out :
 abbrev pub IsFrom : Topology → ℕ → LineOut → Type 0
 IsFrom plan place out = (out.line.0 < line_count plan) × ((sender_of plan out.line.0 == place) ≡ true)
 
-module _ (plan : Topology) (rows here : List NodeRow) (place t : ℕ) (shown : Shown) (ordered : AreInOrder rows) (at : rows_at t rows ≡ here)
+module _ (plan : Topology) (rows here : List NodeRow) (place t : ℕ) (shown : InputAndLevel) (ordered : AreInOrder rows) (at : rows_at t rows ≡ here)
     (gives : Gives plan rows place (suc t) shown) where
   sent : (line : ℕ) → sender_of plan line ≡ place → level_out plan shown line ≡ node_out plan rows place line t
   unfolding node_out

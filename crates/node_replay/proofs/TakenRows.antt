@@ -7,7 +7,7 @@ use Rattle.sync_text.specs.Each.{Each}
 use Rattle.sync_topo.specs.Topology.{Topology}
 use Rattle.node_file.specs.declared.row.NodeRow.{NodeRow}
 use Rattle.node_file.specs.NodeRow.{rows_at}
-use Rattle.node_replay.specs.declared.running.Run.{Run}
+use Rattle.node_replay.specs.declared.running.NodeRun.{NodeRun}
 use Rattle.node_replay.specs.declared.parts.Collected.{Collected}
 use Rattle.node_replay.specs.Rows.{AreInOrder, IsRowList}
 use Rattle.node_replay.specs.Running.{RunStands, RunHolds}
@@ -23,7 +23,7 @@ last-two [] row next ordered = ordered.0.0
 last-two (first ∷ rows) row next ordered = last-two rows row next ordered.1
 
 -- a new run stands for no rows
-pub begun-after : (plan : Topology) (element until : ℕ) (run : Run) (here : List NodeRow) → here ≡ [] → run.next ≡ 0 → run.stopped ≡ None
+pub begun-after : (plan : Topology) (element until : ℕ) (run : NodeRun) (here : List NodeRow) → here ≡ [] → run.next ≡ 0 → run.stopped ≡ None
     → ((rows : List NodeRow) → RunStands plan rows element 0 run)
     → IsAfter plan (record { element = element; until = until; run = run; at = 0; here = here }) []
 begun-after plan element until run here empty next going stands = record {
@@ -84,19 +84,19 @@ module _ (plan : Topology) where
           ap (λ t. rows_at t (rows ++ row ∷ [])) time
           ∙ rows-at-append parts.at rows (row ∷ [])
           ∙ ap (λ back. rows_at parts.at rows ++ back) (one-here parts.at row at)
-          ∙ ap (λ front. front ++ row ∷ []) (is.here (sym (ap (λ (r : Run). r.stopped) run) ∙ going))
+          ∙ ap (λ front. front ++ row ∷ []) (is.here (sym (ap (λ (r : NodeRun). r.stopped) run) ∙ going))
           ∙ sym here;
       away = λ going t low high other.
-          let next = ap (λ (r : Run). r.next) run in
+          let next = ap (λ (r : NodeRun). r.next) run in
           more-away t rows (row ∷ [])
-          (is.away (sym (ap (λ (r : Run). r.stopped) run) ∙ going) t (omega (arith, next, low)) (omega (arith, until, high)) (λ same. other (same ∙ sym time)))
+          (is.away (sym (ap (λ (r : NodeRun). r.stopped) run) ∙ going) t (omega (arith, next, low)) (omega (arith, until, high)) (λ same. other (same ∙ sym time)))
           (one-away t row (λ same. other (sym same ∙ at ∙ sym time)));
       holds = λ more list_more each.
           let same : (rows ++ row ∷ []) ++ more ≡ rows ++ row ∷ more = append_assoc rows (row ∷ []) more in
           let listed = subst (λ e. IsRowList plan e (rows ++ row ∷ more)) element (subst (IsRowList plan after.element) same list_more) in
           let least : parts.at ≤ row.at = omega (arith, at) in
           let held = is.holds (row ∷ more) listed (least, Each-map (λ row. after.at ≤ row.at) (λ row. parts.at ≤ row.at) (λ row later. omega (arith, later, time)) more each) in
-          subst (λ (r : Run). RunHolds plan ((rows ++ row ∷ []) ++ more) after.element after.until r.next r r.stopped) (sym run)
+          subst (λ (r : NodeRun). RunHolds plan ((rows ++ row ∷ []) ++ more) after.element after.until r.next r r.stopped) (sym run)
           (subst (λ n. RunHolds plan ((rows ++ row ∷ []) ++ more) after.element n parts.run.next parts.run parts.run.stopped) (sym until)
           (subst (λ e. RunHolds plan ((rows ++ row ∷ []) ++ more) e parts.until parts.run.next parts.run parts.run.stopped) (sym element)
           (subst (λ all. RunHolds plan all parts.element parts.until parts.run.next parts.run parts.run.stopped) (sym same) held)));

@@ -21,9 +21,9 @@ use Rattle.node_file.specs.NodeRow.{IsRowOf}
 use Rattle.node_replay.specs.declared.inputs.LastLevel.{LastLevel}
 use Rattle.node_replay.specs.declared.inputs.InputNow.{InputNow}
 use Rattle.node_replay.specs.declared.lines_out.LineOut.{LineOut}
-use Rattle.node_replay.specs.declared.shown.Shown.{Shown}
+use Rattle.node_replay.specs.declared.shown.InputAndLevel.{InputAndLevel}
 use Rattle.node_replay.specs.declared.frames.Sent.{Sent}
-use Rattle.node_replay.specs.declared.running.Run.{Run}
+use Rattle.node_replay.specs.declared.running.NodeRun.{NodeRun}
 use Rattle.sync_topo.specs.Sizes.{most_rows}
 use Rattle.node_rules.specs.NodeText.{lines_out, frame_row, sending_at, rows_before}
 use Rattle.node_replay.specs.private.Keeping.{heard_of, level_after, up_then, last_then, input_after, out_after, frame_for, frame_of, sent_row}
@@ -38,7 +38,7 @@ use Rattle.node_replay.proofs.OutSteps.{IsSaid, IsFrom, outs-step}
 use Rattle.node_replay.proofs.FrameRows.{sent-rows}
 
 -- the lines stay those that they are
-pub lines-after : (plan : Topology) (here : List NodeRow) (shown : Shown) (outs : List LineOut)
+pub lines-after : (plan : Topology) (here : List NodeRow) (shown : InputAndLevel) (outs : List LineOut)
     → map (λ out. out.line.0) (map (out_after plan here shown) outs) ≡ map (λ out. out.line.0) outs
 unfolding out_after
 lines-after plan here shown [] = refl
@@ -61,13 +61,13 @@ steady-after : (here : List NodeRow) (now m : ℕ) (inputs : List InputNow)
 steady-after here now m [] same = tt
 steady-after here now m (input ∷ inputs) same = (steady-one here now m input same.0, steady-after here now m inputs same.1)
 
-given-after : (plan : Topology) (here : List NodeRow) (shown : Shown) (outs : List LineOut) → AreGiven plan shown (map (out_after plan here shown) outs)
+given-after : (plan : Topology) (here : List NodeRow) (shown : InputAndLevel) (outs : List LineOut) → AreGiven plan shown (map (out_after plan here shown) outs)
 unfolding out_after
 given-after plan here shown [] = tt
 given-after plan here shown (out ∷ outs) = (refl, given-after plan here shown outs)
 
 -- a run after the rows of a millisecond
-pub taken-run : (plan : Topology) (place : ℕ) (here : List NodeRow) (before after : Run) → IsRun plan place before → before.next ≤ 86400000
+pub taken-run : (plan : Topology) (place : ℕ) (here : List NodeRow) (before after : NodeRun) → IsRun plan place before → before.next ≤ 86400000
     → Each (IsRowOf plan place) here → IsTaken plan place here before after → IsRun plan place after
 taken-run plan place here before after run in_range rows taken = record {
   well_formed = run.well_formed;
@@ -101,7 +101,7 @@ fits-or-not n m = elim (dec_lt m n) [
   | no fits ↦ inl (omega (arith, fits))
 ]
 
-pub written-run : (plan : Topology) (place now : ℕ) (frames : List Sent) (before after : Run) → IsRun plan place before
+pub written-run : (plan : Topology) (place now : ℕ) (frames : List Sent) (before after : NodeRun) → IsRun plan place before
     → IsWritten plan place now frames before after → IsRun plan place after
 written-run plan place now frames before after run written = record {
   well_formed = run.well_formed;
@@ -178,7 +178,7 @@ frames-within plan place t outs lines =
     (Each-map (IsFrom plan place) (λ (out : LineOut). out.line.0 < line_count plan) (λ out from. from.0) outs (outs-lines plan place outs lines)))
 
 -- a run stands for one millisecond more, or stops before it
-module _ (plan : Topology) (place : ℕ) (here rows : List NodeRow) (before mid after : Run) (run : IsRun plan place before) (taken : IsTaken plan place here before mid)
+module _ (plan : Topology) (place : ℕ) (here rows : List NodeRow) (before mid after : NodeRun) (run : IsRun plan place before) (taken : IsTaken plan place here before mid)
     (run_mid : IsRun plan place mid) (is_here : AreHere plan place before.next here rows) (stands : RunStands plan rows place before.next before) where
   now : ℕ
   now = before.next

@@ -18,7 +18,7 @@ use Rattle.node_file.specs.NodeRow.{events_in}
 use Rattle.node_replay.specs.declared.inputs.LastLevel.{LastLevel}
 use Rattle.node_replay.specs.declared.inputs.InputNow.{InputNow}
 use Rattle.node_replay.specs.declared.lines_out.LineOut.{LineOut}
-use Rattle.node_replay.specs.declared.running.Run.{Run}
+use Rattle.node_replay.specs.declared.running.NodeRun.{NodeRun}
 use Rattle.node_rules.specs.Replay.{counted, signals_in, heard_in, out_past}
 use Rattle.node_rules.specs.NodeText.{rows_before, IsLastFit, whole_text}
 use Rattle.node_replay.specs.Keeping.{word_or, said_in}
@@ -54,7 +54,7 @@ pub record IsOutAt (plan : Topology) (rows : List NodeRow) (number n : ℕ) (out
   pub said : out.said ≡ said (out_past plan rows number out.line.0 n)
 
 -- it is as the rows have it after n milliseconds
-pub record RunStands (plan : Topology) (rows : List NodeRow) (number n : ℕ) (run : Run) : Type 0 where
+pub record RunStands (plan : Topology) (rows : List NodeRow) (number n : ℕ) (run : NodeRun) : Type 0 where
   pub element : IsOfPast plan rows number n run.element
   pub inputs : Each (IsInputAt plan rows n) run.inputs.items
   pub lines_out : Each (IsOutAt plan rows number n) run.lines_out.items
@@ -62,10 +62,10 @@ pub record RunStands (plan : Topology) (rows : List NodeRow) (number n : ℕ) (r
   pub count : run.rows ≡ length (rows_before plan rows number n)
 
 -- or it has stopped, since the rows don't fit
-pub record RunStopped (plan : Topology) (rows : List NodeRow) (number until last : ℕ) (run : Run) : Type 0 where
+pub record RunStopped (plan : Topology) (rows : List NodeRow) (number until last : ℕ) (run : NodeRun) : Type 0 where
   pub fit : IsLastFit plan rows number last until
   pub text : run.text ≡ whole_text plan rows number last
 
-abbrev pub RunHolds : Topology → List NodeRow → ℕ → ℕ → ℕ → Run → Option ℕ → Type 0
+abbrev pub RunHolds : Topology → List NodeRow → ℕ → ℕ → ℕ → NodeRun → Option ℕ → Type 0
 RunHolds plan rows number until n run None = RunStands plan rows number n run
 RunHolds plan rows number until n run (Some last) = RunStopped plan rows number until last run

@@ -5,7 +5,7 @@ ghost use Rattle.sync_topo.specs.Lines.{line_count, IsInput};
 ghost use Rattle.node_replay.specs.private.Keeping.{said_by, out_after};
 
 use crate::last_rows::{esmc_after, up_after};
-use crate::shown::{Shown, level_out};
+use crate::shown::{InputAndLevel, level_out};
 use node_file::NodeRow;
 use sync_ql::Level;
 use sync_topo::{InputId, LineId, Plan};
@@ -26,7 +26,7 @@ pub(crate) struct LineOut {
 
 /// A line after the rows of a millisecond.
 #[tactic(auto, unfolding(crate::specs::private::Keeping::out_after))]
-fn out_after(plan: &Plan, here: &[NodeRow], shown: Shown, out: LineOut) -> LineOut
+fn out_after(plan: &Plan, here: &[NodeRow], shown: InputAndLevel, out: LineOut) -> LineOut
     requires input { IfSome shown.taken (IsInput plan.now) }
     requires line { out.line.0 < line_count plan.now }
     ensures { result ≡ out_after plan.now here.now shown out }
@@ -44,7 +44,7 @@ fn out_after(plan: &Plan, here: &[NodeRow], shown: Shown, out: LineOut) -> LineO
 
 /// What a line says, where it speaks.
 #[tactic(auto, unfolding(crate::specs::private::Keeping::said_by))]
-fn said_by(plan: &Plan, shown: Shown, line: LineId, speaks: bool) -> Option<Level>
+fn said_by(plan: &Plan, shown: InputAndLevel, line: LineId, speaks: bool) -> Option<Level>
     requires input { IfSome shown.taken (IsInput plan.now) }
     requires line { line.0 < line_count plan.now }
     ensures { result ≡ said_by plan.now shown line.0 speaks }
@@ -56,7 +56,12 @@ fn said_by(plan: &Plan, shown: Shown, line: LineId, speaks: bool) -> Option<Leve
 }
 
 /// Takes in the rows of a millisecond, and what the element gives in it.
-pub(crate) fn note_lines_out(plan: &Plan, lines_out: &mut [LineOut], here: &[NodeRow], shown: Shown)
+pub(crate) fn note_lines_out(
+    plan: &Plan,
+    lines_out: &mut [LineOut],
+    here: &[NodeRow],
+    shown: InputAndLevel,
+)
     requires input { IfSome shown.taken (IsInput plan.now) }
     requires lines { All (λ out. out.line.0 < line_count plan.now) lines_out.old }
     ensures { lines_out.new ≡ map (out_after plan.now here.now shown) lines_out.old }

@@ -13,7 +13,7 @@ ghost use Rattle.node_replay.specs.private.Collecting.{IsWhole};
 ghost use Rattle.node_replay.specs.Replayed.{IsReplayed};
 
 use crate::replayed::{NodeEnd, Replayed};
-use crate::running::Run;
+use crate::running::NodeRun;
 use crate::starting::new_run;
 use node_file::NodeRow;
 use std::alloc::Global;
@@ -26,7 +26,7 @@ use sync_topo::Plan;
 pub(crate) struct Collected {
     pub(crate) element: u32,
     pub(crate) until: u64,
-    pub(crate) run: Run,
+    pub(crate) run: NodeRun,
     /// The millisecond of the rows that were taken last, and these rows.
     pub(crate) at: u64,
     pub(crate) here: Rows<NodeRow>,
@@ -134,7 +134,7 @@ impl Collected {
 }
 
 /// The text of a run that has come to its end.
-fn ended(run: Run) -> Result<Replayed, NoMemory>
+fn ended(run: NodeRun) -> Result<Replayed, NoMemory>
     ensures { (plan : Topology) (rows : List NodeRow) (element until : ℕ) →
         run.rows ≤ most_rows plan →
         RunHolds plan rows element until (suc until) run run.stopped →

@@ -15,7 +15,7 @@ ghost use Rattle.node_replay.specs.private.Turning.{IsWake, IsTaken, IsWritten};
 use crate::frames::{Sent, frames_of, put_frames};
 use crate::inputs::{InputNow, loss_of, note_inputs};
 use crate::lines_out::{LineOut, note_lines_out};
-use crate::shown::{Shown, shown_of};
+use crate::shown::{InputAndLevel, shown_of};
 use crate::told::tell_all;
 use net_words::step_alone;
 use node_file::NodeRow;
@@ -28,9 +28,9 @@ use sync_topo::Plan;
 
 /// The element with its inputs and the lines out of it, and the frames that it sent so far.
 #[derive(Debug, Drop)]
-pub(crate) struct Run {
+pub(crate) struct NodeRun {
     pub(crate) element: Element,
-    pub(crate) shown: Shown,
+    pub(crate) shown: InputAndLevel,
     pub(crate) inputs: Vec<InputNow>,
     pub(crate) lines_out: Vec<LineOut>,
     /// What the element was told last, which keeps its room.
@@ -92,7 +92,7 @@ fn next_wake(element: &Element, inputs: &[InputNow], now: u64) -> u64
     first_loss(inputs, now, earlier(element.due(), second))
 }
 
-impl Run {
+impl NodeRun {
     /// Takes in the rows of the next millisecond, and lets the element make its step.
     fn take_rows(&mut self, plan: &Plan, element: u32, here: &[NodeRow]) -> Result<(), NoMemory>
         requires within { element < length plan.now.elements }

@@ -13,25 +13,25 @@ use sync_topo::{InputId, LineId, Plan};
 
 /// The input that an element takes, and its level.
 #[derive(Clone, Copy, Debug, Drop)]
-pub(crate) struct Shown {
+pub(crate) struct InputAndLevel {
     pub(crate) taken: Option<InputId>,
     pub(crate) level: Level,
 }
 
 /// What an element of the plan takes, and its level.
-pub(crate) fn shown_of(plan: &Plan, number: u32, element: &Element) -> Shown
+pub(crate) fn shown_of(plan: &Plan, number: u32, element: &Element) -> InputAndLevel
     requires within { number < length plan.now.elements }
     requires settings { element.now.settings ≡ settings_of plan.now number }
     ensures { Shows plan.now number element.now result }
 {
-    Shown {
+    InputAndLevel {
         taken: taken_of(plan, number, element),
         level: element.level(),
     }
 }
 
 /// The level that the element gives a line out of it.
-pub(crate) fn level_out(plan: &Plan, shown: Shown, line: LineId) -> Level
+pub(crate) fn level_out(plan: &Plan, shown: InputAndLevel, line: LineId) -> Level
     requires input { IfSome shown.taken (IsInput plan.now) }
     requires line { line.0 < line_count plan.now }
     ensures { result ≡ level_out plan.now shown line.0 }

@@ -11,7 +11,7 @@ ghost use Rattle.node_replay.specs.private.Running.{IsRun};
 
 use crate::inputs::{InputNow, LastLevel};
 use crate::lines_out::LineOut;
-use crate::running::Run;
+use crate::running::NodeRun;
 use crate::shown::shown_of;
 use net_words::{Chooses, new_element};
 use std::alloc::Global;
@@ -20,7 +20,7 @@ use sync_text::{NoMemory, Rows, Text};
 use sync_topo::{InputId, LineId, Plan};
 
 /// A run of an element of a plan, to which nothing happened.
-pub(crate) fn new_run(alloc: Global, plan: &Plan, number: u32) -> Result<Run, NoMemory>
+pub(crate) fn new_run(alloc: Global, plan: &Plan, number: u32) -> Result<NodeRun, NoMemory>
     requires { number < length plan.now.elements }
     ensures run { IfOk result (IsRun plan.now number) }
     ensures next { IfOk result (λ run. run.next ≡ 0) }
@@ -32,7 +32,7 @@ pub(crate) fn new_run(alloc: Global, plan: &Plan, number: u32) -> Result<Run, No
     let shown = shown_of(plan, number, &element);
     let inputs = new_inputs(alloc, plan, number)?;
     let lines = new_lines_out(alloc, plan, number)?;
-    Ok(Run {
+    Ok(NodeRun {
         element,
         shown,
         inputs: inputs.into_vec(),

@@ -12,7 +12,7 @@ use Rattle.net_rules.proofs.PlanLaws.{receiver-within}
 use Rattle.nominate.specs.HopCount.{Counts, count_at, IsReachedIn, IsCountOf, AreHopCounts}
 use Rattle.nominate.specs.LocalFacts.{AreNear, HasNeighbour, AreLocallyRight}
 use Rattle.nominate.specs.private.Searching.{IsSearching, AreLed}
-use Rattle.nominate.specs.declared.search.Search.{Search}
+use Rattle.nominate.specs.declared.search.HopSearch.{HopSearch}
 use Rattle.nominate.proofs.CountLemmas.{count-within}
 use Rattle.nominate.proofs.SourceLemmas.{root-within}
 
@@ -176,7 +176,7 @@ one-list plan one other first second =
 
 -- ---- a search that is done
 
-pub facts-by_search : (plan : Topology) (search : Search) → IsWellFormed plan → IsSearching plan search → AreLed plan search.counts.items → AreLocallyRight plan search.counts.items
+pub facts-by_search : (plan : Topology) (search : HopSearch) → IsWellFormed plan → IsSearching plan search → AreLed plan search.counts.items → AreLocallyRight plan search.counts.items
 facts-by_search plan search well searching led = record {
   counted = searching.counted;
   roots = λ element inside. (searching.zeros element, searching.roots element);

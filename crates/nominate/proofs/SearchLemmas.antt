@@ -18,7 +18,7 @@ use Rattle.sync_topo.specs.Outputs.{AreOutputs}
 use Rattle.nominate.specs.private.Searching.{left_over, work, IsSearching, IsClose, IsLed, AreKept, AreKeptBut, IsMore}
 use Rattle.std.specs.declared.alloc.Global.{Global}
 use Rattle.std.specs.Prelude.{Vec}
-use Rattle.nominate.specs.declared.search.Search.{Search}
+use Rattle.nominate.specs.declared.search.HopSearch.{HopSearch}
 use Rattle.nominate.specs.HopCount.{AreBounded}
 use Rattle.nominate.proofs.CountLemmas.{count-set_here, count-set_there, count-push_before, count-push_last, count-within}
 use Rattle.nominate.proofs.SourceLemmas.{root-within}
@@ -37,7 +37,7 @@ left_over-set counts element hops inside none =
     omega (arith, counts_then, one)
 
 -- the element where the line ends gets its count
-pub record IsGiven (plan : Topology) (before after : Search) (line : ℕ) : Type 0 where
+pub record IsGiven (plan : Topology) (before after : HopSearch) (line : ℕ) : Type 0 where
   pub within : line < line_count plan
   pub inside : receiver_of plan line < length plan.elements
   pub of_depth : count_at before.counts.items (sender_of plan line) ≡ Some before.depth
@@ -47,7 +47,7 @@ pub record IsGiven (plan : Topology) (before after : Search) (line : ℕ) : Type
   pub next : after.next.items ≡ before.next.items ++ receiver_of plan line ∷ []
   pub depth : after.depth ≡ before.depth
 
-module _ (plan : Topology) (before after : Search) (line : ℕ) (searching : IsSearching plan before) (given : IsGiven plan before after line) where
+module _ (plan : Topology) (before after : HopSearch) (line : ℕ) (searching : IsSearching plan before) (given : IsGiven plan before after line) where
   there : receiver_of plan line < length before.counts.items
   there = rw searching.counted given.inside
 
@@ -130,7 +130,7 @@ module _ (plan : Topology) (before after : Search) (line : ℕ) (searching : IsS
     work = less;
   }
 
-pub IsMore-same : (plan : Topology) (search : Search) → IsSearching plan search → IsMore plan search search
+pub IsMore-same : (plan : Topology) (search : HopSearch) → IsSearching plan search → IsMore plan search search
 IsMore-same plan search searching = record {
   searching = searching;
   grows = λ element hops is. is;
@@ -141,7 +141,7 @@ IsMore-same plan search searching = record {
   work = omega arith;
 }
 
-pub IsMore-trans : (plan : Topology) (first second third : Search) → IsMore plan first second → IsMore plan second third → IsMore plan first third
+pub IsMore-trans : (plan : Topology) (first second third : HopSearch) → IsMore plan first second → IsMore plan second third → IsMore plan first third
 IsMore-trans plan first second third one other = record {
   searching = other.searching;
   grows = λ element hops is. other.grows element hops (one.grows element hops is);
@@ -159,7 +159,7 @@ IsMore-trans plan first second third one other = record {
 }
 
 -- what is close stays so
-pub close-grows : (plan : Topology) (before after : Search) (hops element : ℕ) → IsMore plan before after → IsClose before.counts.items hops element → IsClose after.counts.items hops element
+pub close-grows : (plan : Topology) (before after : HopSearch) (hops element : ℕ) → IsMore plan before after → IsClose before.counts.items hops element → IsClose after.counts.items hops element
 close-grows plan before after hops element more close = (close.0, more.grows element close.0 close.1, close.2)
 
 -- all lines of an element lead to what is close
@@ -171,7 +171,7 @@ led-by_outputs plan outputs own counts element hops are is close line within sen
     (rw (is, ← sent) among)
 
 -- one element fewer is to be looked at
-pub AreKept-visited : (plan : Topology) (taken after : Search) (element : ℕ) → AreKeptBut plan taken element → count_at taken.counts.items element ≡ Some taken.depth
+pub AreKept-visited : (plan : Topology) (taken after : HopSearch) (element : ℕ) → AreKeptBut plan taken element → count_at taken.counts.items element ≡ Some taken.depth
     → IsMore plan taken after → IsLed plan after.counts.items element taken.depth → AreKept plan after
 AreKept-visited plan taken after element but of_depth more led other hops is = elim (more.fresh other hops is) [
   | inl was ↦ elim (but other hops was) [
@@ -257,7 +257,7 @@ IsStart-more plan n counts current false tells start =
     }
 
 -- all elements have their first counts
-pub IsSearching-start : (plan : Topology) (search : Search) → IsWellFormed plan → IsStart plan (length plan.elements) search.counts.items search.current.items
+pub IsSearching-start : (plan : Topology) (search : HopSearch) → IsWellFormed plan → IsStart plan (length plan.elements) search.counts.items search.current.items
     → search.next.items ≡ [] → search.depth ≡ 0 → IsSearching plan search
 IsSearching-start plan search well start none zero_depth = record {
   counted = start.counted;
@@ -271,7 +271,7 @@ IsSearching-start plan search well start none zero_depth = record {
 }
 
 -- where there is a count already, it is close
-pub close-there : (plan : Topology) (search : Search) (element hops : ℕ) → IsSearching plan search → count_at search.counts.items element ≡ Some hops
+pub close-there : (plan : Topology) (search : HopSearch) (element hops : ℕ) → IsSearching plan search → count_at search.counts.items element ≡ Some hops
     → IsClose search.counts.items search.depth element
 close-there plan search element hops searching is = elim (searching.low element hops is) [
   | inl low ↦ (hops, is, omega (arith, low))
@@ -279,7 +279,7 @@ close-there plan search element hops searching is = elim (searching.low element 
 ]
 
 -- no count is above the number of elements
-pub bounded-search : (plan : Topology) (search : Search) → IsSearching plan search → AreBounded plan search.counts.items
+pub bounded-search : (plan : Topology) (search : HopSearch) → IsSearching plan search → AreBounded plan search.counts.items
 bounded-search plan search searching element hops is =
     let bound = searching.bound in
     elim (searching.low element hops is) [

@@ -1,7 +1,7 @@
 ghost use Rattle.std.specs.Prelude.{◌≡◌, ◌<◌, length, IfOk};
 ghost use Rattle.nominate.specs.HopCount.{Counts, count_at, AreHopCounts, AreBounded};
 
-use crate::search::Search;
+use crate::search::HopSearch;
 use std::alloc::Global;
 use std::marker::Model;
 use sync_text::NoMemory;
@@ -52,7 +52,7 @@ pub fn least_hops(alloc: Global, plan: &Plan) -> Result<Hops, NoMemory>
     ensures bounded { IfOk result (AreBounded plan.now) }
 {
     let outputs = all_lines_out(alloc, plan)?;
-    let mut search = Search::new(alloc, plan)?;
+    let mut search = HopSearch::new(alloc, plan)?;
     search.run(plan, outputs.as_slice())?;
     Ok(Hops {
         counts: search.counts,

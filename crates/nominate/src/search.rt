@@ -13,7 +13,7 @@ use sync_topo::{InputId, LineId, Plan};
 
 /// The counts that are given so far.
 #[derive(Drop)]
-pub(crate) struct Search {
+pub(crate) struct HopSearch {
     /// A count for each element that is reached.
     pub(crate) counts: Vec<Option<u32>>,
     /// The elements of this depth that are still to be looked at.
@@ -24,9 +24,9 @@ pub(crate) struct Search {
     pub(crate) depth: u32,
 }
 
-impl Search {
+impl HopSearch {
     /// The roots have their counts, and wait to be looked at.
-    pub(crate) fn new(alloc: Global, plan: &Plan) -> Result<Search, NoMemory>
+    pub(crate) fn new(alloc: Global, plan: &Plan) -> Result<HopSearch, NoMemory>
         ensures well_formed { IfOk result (λ _. IsWellFormed plan.now) }
         ensures searching { IfOk result (IsSearching plan.now) }
         ensures kept { IfOk result (AreKept plan.now) }
@@ -40,7 +40,7 @@ impl Search {
             };
             push_if(&mut current, element, root)?;
         }
-        Ok(Search {
+        Ok(HopSearch {
             counts,
             current,
             next: Vec::new(alloc),

@@ -49,8 +49,8 @@ fn version_of(value: &Value) -> Option<Version>
     version_of_number(value.as_integer()?)
 }
 
-/// The network option of a text.
-fn option_of_text(text: &str) -> Option<NetOption>
+/// The network option of a text, `I` or `II`; `None` of any other. After G.781, network options.
+pub fn option_of_text(text: &str) -> Option<NetOption>
     ensures { result ≡ option_of text.now }
 {
     match text {

@@ -14,7 +14,7 @@ mod values;
 mod version;
 
 pub use error::PlanFileErr;
-pub use head::{fits_option, fits_version, option_in, version_in};
+pub use head::{fits_option, fits_version, option_in, option_of_text, version_in};
 pub use rows::{element_by, link_by, rows_of, source_by};
 pub use values::{ElementValues, HeadValues, LinkValues, SourceValues, keep};
 pub use version::Version;

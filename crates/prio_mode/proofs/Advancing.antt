@@ -10,7 +10,7 @@ use Rattle.net_rules.specs.Signals.{events_at}
 use Rattle.event_times.specs.EventTimes.{IsNextTime, AreHere, AreNext, AreAhead, MomentsLeft}
 use Rattle.event_times.proofs.EventTimes.{sooner}
 use Rattle.net_words.specs.Words.{all_words}
-use Rattle.prio_mode.specs.declared.running.Run.{Run}
+use Rattle.prio_mode.specs.declared.running.PriorityRun.{PriorityRun}
 use Rattle.prio_mode.specs.PriorityRows.{row_in, rows_until}
 use Rattle.prio_mode.specs.private.Running.{IsReady, IsRun, RunStands, HasRun, IsOnWay, kept_at}
 use Rattle.prio_mode.proofs.Standing.{quiet-stands, no-row}
@@ -25,7 +25,7 @@ concat-none f a (suc n) none =
     (concat-none f (a + 1) n (λ i low high. none i (omega (arith, low)) (omega (arith, high))))
 
 -- from a millisecond up to another, up to which nothing is due
-module _ (plan : Topology) (next now : ℕ) (run : Run) (is : IsRun plan next run)
+module _ (plan : Topology) (next now : ℕ) (run : PriorityRun) (is : IsRun plan next run)
     (later : next ≤ now)
     (first : next ≡ 0 → now ≡ 0) (due : (e : ℕ) → IfSome (due_in run.dues e) (λ due. now ≤ due))
   where
@@ -87,7 +87,7 @@ module _ (plan : Topology) (next now : ℕ) (run : Run) (is : IsRun plan next ru
       ]
 
 -- each element is due no earlier than the next millisecond
-pub dues-from : (plan : Topology) (next : ℕ) (run : Run) → IsRun plan next run
+pub dues-from : (plan : Topology) (next : ℕ) (run : PriorityRun) → IsRun plan next run
     → (e : ℕ) → e < length run.dues → IfSome (due_in run.dues e) (λ due. next ≤ due)
 dues-from plan next run is e within =
     let ready = is.ready e (let count = is.counted.dues in omega (arith, count, within)) in
@@ -95,7 +95,7 @@ dues-from plan next run is e within =
 
 -- a turn on
 pub on-way : (plan : Topology) (events here : List Event) (left left_then : MomentsLeft)
-    (until now : ℕ) (due : Option ℕ) (before run run_then : Run) (first text text_then : List ℕ)
+    (until now : ℕ) (due : Option ℕ) (before run run_then : PriorityRun) (first text text_then : List ℕ)
     → IsOnWay plan events left until before run first text
     → IsNextTime left.next left.rest due left.until now
     → ((e : ℕ) → IfSome (due_in run.dues e) (λ due. now ≤ due))

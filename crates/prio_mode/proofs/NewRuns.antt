@@ -9,7 +9,7 @@ use Rattle.sync_topo.specs.declared.event.Event.{Event}
 use Rattle.sync_topo.specs.Topology.{Topology}
 use Rattle.net_rules.specs.Signals.{signals_by}
 use Rattle.net_words.specs.NewElements.{AreEach}
-use Rattle.prio_mode.specs.declared.running.Run.{Run}
+use Rattle.prio_mode.specs.declared.running.PriorityRun.{PriorityRun}
 use Rattle.prio_mode.specs.PriorityAlone.{priority_settings, priority_moment}
 use Rattle.prio_mode.specs.private.Running.{IsNewSeen, IsRun, RunStands, kept_at, nobody}
 
@@ -20,7 +20,7 @@ replicated n i a = elim (cases_lt i n) [
 ]
 
 -- new elements are a run
-pub begun : (plan : Topology) (run : Run)
+pub begun : (plan : Topology) (run : PriorityRun)
     → AreEach (IsNewSeen plan) (length plan.elements) run.seen.items
     → run.tellings.changes.items ≡ replicate (length plan.elements) []
     → run.tellings.active ≡ none_marked (length plan.elements)
@@ -44,7 +44,7 @@ begun plan run seen changes active dues = record {
 }
 
 -- and stand for no milliseconds
-pub begun-stands : (plan : Topology) (run : Run)
+pub begun-stands : (plan : Topology) (run : PriorityRun)
     → AreEach (IsNewSeen plan) (length plan.elements) run.seen.items
     → (all : List Event) → RunStands plan all 0 run
 unfolding priority_settings

@@ -20,9 +20,9 @@ use Rattle.net_rules.proofs.SettingLaws.{taken-own}
 use Rattle.closed_walks.specs.Taking.{taken_in_list, AreTaken}
 use Rattle.closed_walks.specs.Loops.{AreLoops}
 use Rattle.closed_walks.specs.WalkText.{walk_rows}
-use Rattle.prio_mode.specs.declared.shown.Shown.{Shown}
+use Rattle.prio_mode.specs.declared.shown.ShownByPriority.{ShownByPriority}
 use Rattle.prio_mode.specs.declared.shown.Seen.{Seen}
-use Rattle.prio_mode.specs.declared.running.Run.{Run}
+use Rattle.prio_mode.specs.declared.running.PriorityRun.{PriorityRun}
 use Rattle.prio_mode.specs.PriorityAlone.{priority_settings, priority_past, priority_taken_at, priority_taken_in}
 use Rattle.prio_mode.specs.PriorityRows.{shown_after, rows_until}
 use Rattle.prio_mode.specs.PriorityReport.{IsPriorityReport}
@@ -41,13 +41,13 @@ element-within plan (Source source) well has = elim (slice_get_cases plan.source
 abbrev taken_shown : List Seen → Taken
 taken_shown seen = taken_in_list (inputs_shown seen)
 
-module _ (plan : Topology) (events : List Event) (until : ℕ) (run : Run) (well : IsWellFormed plan)
+module _ (plan : Topology) (events : List Event) (until : ℕ) (run : PriorityRun) (well : IsWellFormed plan)
     (is : IsRun plan (suc until) run) (stood : RunStands plan events (suc until) run) where
   inside : (e : ℕ) → e < length plan.elements
       → (kept_at plan run e).one.shown.input ≡ priority_taken_in plan (signals_by plan events) until
       e
   unfolding shown_after priority_taken_at
-  inside e within = ap (λ (shown : Shown). shown.input)
+  inside e within = ap (λ (shown : ShownByPriority). shown.input)
       (shown-is plan events e (suc until) (kept_at plan run e).one.element
       (kept_at plan run e).one.shown
       (is.ready e within).shows (stood e within))

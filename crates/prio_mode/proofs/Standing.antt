@@ -24,7 +24,7 @@ use Rattle.net_words.proofs.FitLaws.{all-fit}
 use Rattle.net_words.proofs.SplitWords.{word-until, past-up}
 use Rattle.net_words.proofs.WordLaws.{all-up, all-level, all-clear, all-commands}
 use Rattle.shown_words.proofs.SameLaws.{same-mode, same-state, same-taken}
-use Rattle.prio_mode.specs.declared.shown.Shown.{Shown}
+use Rattle.prio_mode.specs.declared.shown.ShownByPriority.{ShownByPriority}
 use Rattle.prio_mode.specs.PriorityAlone.{priority_levels, priority_settings, priority_moment, priority_past}
 use Rattle.net_words.specs.NewElements.{one_level, by_priority}
 use Rattle.prio_mode.specs.PriorityRows.{shown_after, shows_other, shown_by, row_between, change_row}
@@ -69,18 +69,18 @@ quiet-stands plan all place n element ordered in_time none is =
     (sym (told-moment plan all place n ordered) ∙ ap (moment_after (priority_settings plan place) (priority_past plan (signals_by plan all) place n)) none)
 
 -- what an element shows is what it shows by its past
-pub shown-is : (plan : Topology) (all : List Event) (place n : ℕ) (element : ElementState) (shown : Shown) → Shows plan place element shown
+pub shown-is : (plan : Topology) (all : List Event) (place n : ℕ) (element : ElementState) (shown : ShownByPriority) → Shows plan place element shown
     → IsOfPast plan all place n element → shown ≡ shown_by plan all place n
 shown-is plan all place n element shown shows is =
     shows.shows (priority_past plan (signals_by plan all) place element.next) n is.stands is.in_time
     ∙ ap (λ past. shown_after plan place past) (sym is.quiet)
 
 -- nothing is other than itself
-not-other : (shown : Shown) → shows_other shown shown ≡ false
+not-other : (shown : ShownByPriority) → shows_other shown shown ≡ false
 unfolding shows_other
 not-other shown = rw (same-mode shown.mode, same-taken shown.input, same-state shown.state) refl
 
-pub no-row : (plan : Topology) (t place : ℕ) (was shown : Shown) → was ≡ shown → row_between plan t place was shown ≡ []
+pub no-row : (plan : Topology) (t place : ℕ) (was shown : ShownByPriority) → was ≡ shown → row_between plan t place was shown ≡ []
 no-row plan t place was shown same =
     ap (λ other. row_between plan t place other shown) same ∙ ap (λ b. if b then change_row plan t place shown else []) (not-other shown)
 

@@ -22,7 +22,7 @@ use Rattle.event_times.specs.EventTimes.{AreHere}
 use Rattle.net_words.specs.Tellings.{is_active}
 use Rattle.net_words.specs.Words.{all_words}
 use Rattle.prio_mode.specs.declared.shown.Seen.{Seen}
-use Rattle.prio_mode.specs.declared.running.Run.{Run}
+use Rattle.prio_mode.specs.declared.running.PriorityRun.{PriorityRun}
 use Rattle.prio_mode.specs.PriorityAlone.{priority_settings, priority_moment, priority_past}
 use Rattle.prio_mode.specs.PriorityRows.{shown_by, row_between, row_in, rows_in, rows_until}
 use Rattle.prio_mode.specs.private.Running.{Shows, Kept, IsReady, IsOfPast, IsRun, HasRun, kept_at}
@@ -30,7 +30,7 @@ use Rattle.prio_mode.specs.private.Visiting.{IsCalled, AreCalled, IsVisited, Are
 use Rattle.prio_mode.proofs.Standing.{told-moment, quiet-stands, shown-is, no-row}
 
 -- after some elements, one that isn't among them
-module _ (plan : Topology) (now e : ℕ) (done : List ℕ) (before mid after : Run)
+module _ (plan : Topology) (now e : ℕ) (done : List ℕ) (before mid after : PriorityRun)
     (text text_mid text_then : List ℕ) (fresh : list_any (nat_eq e) done ≡ false)
     (walk : AreVisited plan now done before mid text text_mid)
     (one : IsAloneVisited plan now e mid after text_mid text_then) where
@@ -179,7 +179,7 @@ rows-kept row p (x ∷ xs) none = by (p x) refl (rows-kept row p xs none.1)
     by false is more = more ∙ ap (λ own. own ++ concat (map row xs)) (sym (none.0 is))
 
 -- all elements
-module _ (plan : Topology) (now : ℕ) (here : List Event) (before called after : Run)
+module _ (plan : Topology) (now : ℕ) (here : List Event) (before called after : PriorityRun)
     (order : List ℕ)
     (text text_then : List ℕ) (run : IsRun plan now before)
     (calls : AreCalled plan now here before called)

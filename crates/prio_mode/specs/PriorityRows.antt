@@ -11,16 +11,16 @@ use Rattle.sync_topo.specs.Topology.{Topology}
 use Rattle.net_rules.specs.Signals.{signals_by}
 use Rattle.shown_words.specs.Sameness.{is_same_mode, is_same_state, is_same_taken}
 use Rattle.shown_words.specs.Words.{state_word, choice_text}
-use Rattle.prio_mode.specs.declared.shown.Shown.{Shown}
+use Rattle.prio_mode.specs.declared.shown.ShownByPriority.{ShownByPriority}
 use Rattle.prio_mode.specs.PriorityAlone.{priority_settings, priority_past, priority_taken_by}
 
 -- what is shown differs: the mode, the input that is taken, or the state
-unfoldable pub shows_other : Shown → Shown → Bool
+unfoldable pub shows_other : ShownByPriority → ShownByPriority → Bool
 shows_other was now = not (is_same_mode was.mode now.mode && is_same_taken was.input now.input && is_same_state was.state now.state)
 
 -- what an element shows after a past: its mode, the input that it takes, and what its clock follows. After
 -- none it selects automatically, takes no input, and runs free
-unfoldable pub shown_after : Topology → ℕ → List Moment → Shown
+unfoldable pub shown_after : Topology → ℕ → List Moment → ShownByPriority
 shown_after plan element past = record {
   mode = mode_at (priority_settings plan element) past;
   input = priority_taken_by plan element past;
@@ -28,17 +28,17 @@ shown_after plan element past = record {
 }
 
 -- what it shows after the first n milliseconds, by the plan and all events
-abbrev pub shown_by : Topology → List Event → ℕ → ℕ → Shown
+abbrev pub shown_by : Topology → List Event → ℕ → ℕ → ShownByPriority
 shown_by plan events element n = shown_after plan element (priority_past plan (signals_by plan events) element n)
 
 -- a change: t,element,mode,input,state
-abbrev pub change_row : Topology → ℕ → ℕ → Shown → List ℕ
+abbrev pub change_row : Topology → ℕ → ℕ → ShownByPriority → List ℕ
 change_row plan t element shown =
     decimal t ++ codes "," ++ choice_text plan element shown.mode shown.input ++ codes "," ++ state_word shown.state
     ++ codes "\n"
 
 -- the row of an element that shows something else now, and no row otherwise
-abbrev pub row_between : Topology → ℕ → ℕ → Shown → Shown → List ℕ
+abbrev pub row_between : Topology → ℕ → ℕ → ShownByPriority → ShownByPriority → List ℕ
 row_between plan t element was now = if shows_other was now then change_row plan t element now else []
 
 -- the row of an element in a millisecond, those of the first k elements in their order, those of all, and

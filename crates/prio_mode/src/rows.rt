@@ -4,7 +4,7 @@ ghost use Rattle.std.specs.Prelude.{◌≡◌, ◌++◌, ◌<◌, length, IfSome
 ghost use Rattle.sync_topo.specs.Lines.{IsInput};
 ghost use Rattle.prio_mode.specs.PriorityRows.{row_between};
 
-use crate::shown::{Shown, shows_other};
+use crate::shown::{ShownByPriority, shows_other};
 use shown_words::{put_choice, state_column};
 use std::alloc::Global;
 use sync_text::{NoMemory, Text};
@@ -17,8 +17,8 @@ pub(crate) fn put_if_other(
     plan: &Plan,
     now: u64,
     element: u32,
-    was: Shown,
-    shown: Shown,
+    was: ShownByPriority,
+    shown: ShownByPriority,
 ) -> Result<(), NoMemory>
     requires within { element < length plan.now.elements }
     requires input { IfSome shown.input (IsInput plan.now) }

@@ -22,7 +22,7 @@ use sync_topo::{Event, Plan};
 
 /// The elements with what each showed last, what each is told, and when each is due.
 #[derive(Debug, Drop)]
-pub(crate) struct Run {
+pub(crate) struct PriorityRun {
     pub(crate) seen: Vec<Seen>,
     pub(crate) tellings: Tellings,
     pub(crate) dues: DueTimes,
@@ -40,7 +40,7 @@ fn mark_first(plan: &Plan, marks: &mut Marks, now: u64)
     }
 }
 
-impl Run {
+impl PriorityRun {
     /// Marks the elements that have something to do in a millisecond, and tells them what events
     /// say.
     fn call(&mut self, plan: &Plan, now: u64, here: &[Event]) -> Result<(), NoMemory>

@@ -13,7 +13,7 @@ use sync_topo::{InputId, Plan};
 
 /// What an element shows: how its input is chosen, which it takes, and what its clock follows.
 #[derive(Clone, Copy, Debug, Drop)]
-pub(crate) struct Shown {
+pub(crate) struct ShownByPriority {
     pub(crate) mode: Mode,
     pub(crate) input: Option<InputId>,
     pub(crate) state: ClockState,
@@ -23,17 +23,17 @@ pub(crate) struct Shown {
 #[derive(Debug, Drop)]
 pub(crate) struct Seen {
     pub(crate) element: Element,
-    pub(crate) shown: Shown,
+    pub(crate) shown: ShownByPriority,
 }
 
 /// What an element of the plan shows.
 #[tactic(auto, unfolding(crate::specs::PriorityRows::shown_after))]
-pub(crate) fn shown_of(plan: &Plan, number: u32, element: &Element) -> Shown
+pub(crate) fn shown_of(plan: &Plan, number: u32, element: &Element) -> ShownByPriority
     requires within { number < length plan.now.elements }
     requires settings { element.now.settings ≡ priority_settings plan.now number }
     ensures { Shows plan.now number element.now result }
 {
-    Shown {
+    ShownByPriority {
         mode: element.mode(),
         input: taken_of(plan, number, element),
         state: element.state(),
@@ -42,7 +42,7 @@ pub(crate) fn shown_of(plan: &Plan, number: u32, element: &Element) -> Shown
 
 /// Whether something else is shown now than was.
 #[tactic(auto, unfolding(crate::specs::PriorityRows::shows_other))]
-pub(crate) fn shows_other(was: Shown, now: Shown) -> bool
+pub(crate) fn shows_other(was: ShownByPriority, now: ShownByPriority) -> bool
     ensures { result ≡ shows_other was now }
 {
     !(is_same_mode(was.mode, now.mode)

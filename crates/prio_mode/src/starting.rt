@@ -5,7 +5,7 @@ ghost use Rattle.sync_topo.specs.declared.event.Event.{Event};
 ghost use Rattle.net_words.specs.NewElements.{AreEach};
 ghost use Rattle.prio_mode.specs.private.Running.{IsNewSeen, IsRun, RunStands};
 
-use crate::running::Run;
+use crate::running::PriorityRun;
 use crate::shown::{Seen, shown_of};
 use agenda::DueTimes;
 use net_words::{Chooses, new_element, new_tellings};
@@ -14,14 +14,14 @@ use sync_text::{NoMemory, Rows};
 use sync_topo::Plan;
 
 /// A run of a plan, in which nothing was told.
-pub(crate) fn new_run(alloc: Global, plan: &Plan) -> Result<Run, NoMemory>
+pub(crate) fn new_run(alloc: Global, plan: &Plan) -> Result<PriorityRun, NoMemory>
     ensures run { IfOk result (IsRun plan.now 0) }
     ensures stands { IfOk result (λ run. (all : List Event) → RunStands plan.now all 0 run) }
 {
     let seen = all_seen(alloc, plan)?;
     let tellings = new_tellings(alloc, plan)?;
     let dues = DueTimes::new(alloc, plan.elements() as usize)?;
-    Ok(Run {
+    Ok(PriorityRun {
         seen,
         tellings,
         dues,

@@ -7,7 +7,7 @@ ghost use Rattle.sync_element.specs.StandsAfter.{IsStepped};
 ghost use Rattle.prio_mode.specs.PriorityAlone.{priority_settings};
 ghost use Rattle.prio_mode.specs.private.Running.{Shows};
 
-use crate::shown::{Seen, Shown, shown_of};
+use crate::shown::{Seen, ShownByPriority, shown_of};
 use net_words::step_alone;
 use sync_ql::limits::LAST_MILLISECOND;
 use sync_ql::rules::InputEvent;
@@ -22,7 +22,7 @@ pub(crate) fn step_told(
     one: &mut Seen,
     told: &mut Rows<InputEvent>,
     now: u64,
-) -> (Shown, Option<u64>)
+) -> (ShownByPriority, Option<u64>)
     requires within { element < length plan.now.elements }
     requires settings { one.old.element.settings ≡ priority_settings plan.now element }
     requires in_time { IsInTime one.old.element now }

@@ -11,22 +11,22 @@ use sync_topo::Plan;
 
 /// A kind of failures, each of a part with a number.
 #[derive(Clone, Copy, Debug, PartialEq, Eq, Drop)]
-pub(crate) enum Kind {
+pub(crate) enum FailureKind {
     Links,
     Bundles,
     Sources,
     Elements,
 }
 
-impl Kind {
+impl FailureKind {
     /// How many numbers there are. Bundles are told by their links.
     pub(crate) fn count(self, plan: &Plan) -> u32
         ensures { result ≡ count_of plan.now self }
     {
         match self {
-            Kind::Links | Kind::Bundles => plan.links(),
-            Kind::Sources => plan.sources(),
-            Kind::Elements => plan.elements(),
+            FailureKind::Links | FailureKind::Bundles => plan.links(),
+            FailureKind::Sources => plan.sources(),
+            FailureKind::Elements => plan.elements(),
         }
     }
 
@@ -37,19 +37,19 @@ impl Kind {
         ensures at { failures_at plan.now self (number ∷ []) ≡ cons_option result [] }
     {
         match self {
-            Kind::Links => Some(Failure::Link(number)),
-            Kind::Bundles => first_bundle(plan, number),
-            Kind::Sources => Some(Failure::Source(number)),
-            Kind::Elements => Some(Failure::Element(number)),
+            FailureKind::Links => Some(Failure::Link(number)),
+            FailureKind::Bundles => first_bundle(plan, number),
+            FailureKind::Sources => Some(Failure::Source(number)),
+            FailureKind::Elements => Some(Failure::Element(number)),
         }
     }
 }
 
 /// The failure of a link's bundle, if the link is the first that names it.
 fn first_bundle(plan: &Plan, link: u32) -> Option<Failure>
-    requires { link < count_of plan.now Kind.Bundles }
+    requires { link < count_of plan.now FailureKind.Bundles }
     ensures of { IfSome result (IsFailureOf plan.now) }
-    ensures at { failures_at plan.now Kind.Bundles (link ∷ []) ≡ cons_option result [] }
+    ensures at { failures_at plan.now FailureKind.Bundles (link ∷ []) ≡ cons_option result [] }
 {
     if is_first_of_bundle(plan, link) {
         Some(Failure::Bundle(link))

@@ -8,7 +8,7 @@ ghost use Rattle.reach_rules.specs.Protection.{IsProtectedFrom};
 
 use crate::closed::is_closed;
 use crate::gone::Gone;
-use crate::marks::Marks;
+use crate::marks::MetElements;
 use clearing::Ways;
 use reach_rules::Failure;
 use std::alloc::Global;
@@ -25,7 +25,7 @@ pub(crate) fn serves_all(
     ensures { IfOk result (λ serves. IsTrue serves → IsProtectedFrom plan.now fails.Nothing) }
 {
     let nothing = Gone::new(alloc, plan, Failure::Nothing)?;
-    let mut served = Marks::new(alloc, plan)?;
+    let mut served = MetElements::new(alloc, plan)?;
     served.find(plan, outputs, Ways::Nominated, &nothing)?;
     Ok(is_closed(plan, &nothing, served.marked.as_slice()))
 }

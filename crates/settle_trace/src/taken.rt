@@ -1,6 +1,6 @@
 //! What each element takes in the millisecond of the last step.
 
-ghost use Rattle.std.specs.Prelude.{◌≡◌, ◌<◌, ℕ, false, List, length, option_and_then, slice_get, slice_index_or, IfOk, IfSome};
+ghost use Rattle.std.specs.Prelude.{◌≡◌, ◌<◌, ℕ, false, List, length, slice_index_or, IfOk, IfSome};
 ghost use Rattle.sync_topo.specs.declared.event.Event.{Event};
 ghost use Rattle.net_rules.specs.Inputs.{IsInputOf};
 ghost use Rattle.sync_net.specs.Standing.{StandsFor};
@@ -9,6 +9,7 @@ ghost use Rattle.sync_element.specs.ElementState.{ElementState};
 ghost use Rattle.closed_walks.specs.Taking.{taken_in_list, AreTaken};
 ghost use Rattle.settle_trace.specs.Taking.{IsTaking, AreTaking};
 
+use net_words::input_at;
 use std::alloc::Global;
 use sync_net::Net;
 use sync_text::NoMemory;
@@ -45,15 +46,5 @@ pub fn taken_input(net: &Net<'_>, element: u32) -> Option<InputId>
     ensures now { 0 < net.now.next → (all : List Event) → StandsFor net.now all net.now.next →
         result ≡ taken_now net.now all element }
 {
-    input_at(net.plan().inputs(element), net.element(element).selected())
-}
-
-/// The input at a place.
-fn input_at(inputs: &[InputId], place: Option<u32>) -> Option<InputId>
-    ensures { result ≡ option_and_then (slice_get inputs.now) place }
-{
-    match place {
-        Some(place) => inputs.get(place as usize).copied(),
-        None => None,
-    }
+    input_at(net.plan(), element, net.element(element).selected())
 }

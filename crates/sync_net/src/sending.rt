@@ -1,10 +1,10 @@
 //! The lines that are called in a millisecond are given the levels that their senders have then.
 
-ghost use Rattle.std.specs.Prelude.{◌≡◌, ◌≤◌, ◌<◌, ◌+◌, ◌^◌, ℕ, length, slice_index_or, slice_get, true, nat_eq, option_and_then, IfSome, IsSomeAnd, OnOk};
+ghost use Rattle.std.specs.Prelude.{◌≡◌, ◌≤◌, ◌<◌, ◌+◌, ◌^◌, ℕ, length, slice_index_or, true, nat_eq, IfSome, IsSomeAnd, OnOk};
 ghost use Rattle.std.specs.List.{list_any};
 ghost use Rattle.sync_element.specs.ElementState.{ElementState};
 ghost use Rattle.sync_element.specs.StandsFor as ElementPast;
-ghost use Rattle.sync_topo.specs.Lines.{line_count, sender_of, inputs_of, IsInput};
+ghost use Rattle.sync_topo.specs.Lines.{line_count, sender_of, IsInput};
 ghost use Rattle.net_rules.specs.History.{settings_of, is_way_back};
 ghost use Rattle.sync_net.specs.NetState.{line_in};
 ghost use Rattle.sync_net.specs.private.Stages.{IsLevelSent, AreSent, CanSay, IsOnlyGiven};
@@ -12,23 +12,12 @@ ghost use Rattle.sync_net.specs.private.Stages.{IsLevelSent, AreSent, CanSay, Is
 use crate::shared_element::SharedElement;
 use crate::shared_line::SharedLine;
 use agenda::{DueTimes, Marks};
+use net_words::input_at;
 use sync_element::Element;
 use sync_ql::limits::LAST_MILLISECOND;
 use sync_ql::{Level, do_not_use};
 use sync_text::NoMemory;
 use sync_topo::{InputId, LineId, Plan};
-
-/// The input at a place among those of an element.
-fn input_at(plan: &Plan, element: u32, place: Option<u32>) -> Option<InputId>
-    requires { element < length plan.now.elements }
-    ensures input { result ≡ option_and_then (slice_get (inputs_of plan.now element)) place }
-    ensures within { IfSome result (IsInput plan.now) }
-{
-    match place {
-        Some(place) => plan.inputs(element).get(place as usize).copied(),
-        None => None,
-    }
-}
 
 /// Whether a line leads back to where its sender takes its timing from.
 fn is_way_back(plan: &Plan, taken: Option<InputId>, line: LineId) -> bool

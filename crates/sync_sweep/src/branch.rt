@@ -12,7 +12,7 @@ ghost use Rattle.sync_sweep.specs.private.Branching.{IsBranch, AreMarksOf};
 ghost use Rattle.sync_sweep.specs.private.ShownNow.{AreShown};
 ghost use Rattle.sync_sweep.specs.private.Spells.{AreNone, AreNoneUnmarked, AreNotedAt, AreWorseNow, AreCountedSo};
 
-use crate::shown::{Shown, all_shown, note_shown};
+use crate::shown::{ShownCounts, all_shown, note_shown};
 use crate::spells::{Spell, no_spells, note_worse};
 use crate::touched::{Touched, forget, mark_all, mark_named, none_touched};
 use event_times::Moments;
@@ -29,7 +29,7 @@ use sync_topo::Event;
 pub struct Branch<'a> {
     pub net: Net<'a>,
     pub touched: Touched,
-    pub shown: Shown,
+    pub shown: ShownCounts,
     pub spells: Vec<Spell>,
 }
 

@@ -12,7 +12,7 @@ ghost use Rattle.sync_sweep.specs.private.Counts.{AreCounted};
 
 use crate::counted_levels::CountedLevels;
 use crate::counted_states::{CountedStates, States};
-use crate::shown::Shown;
+use crate::shown::ShownCounts;
 use sync_net::Net;
 use sync_ql::{Level, NetOption, do_not_use};
 
@@ -25,7 +25,7 @@ pub struct Tally {
 
 /// The states and the worst level of a plan's elements in the millisecond of the last step, by what
 /// is shown. It takes the same time for any number of elements.
-pub(crate) fn tally_of(net: &Net<'_>, shown: &Shown) -> Tally
+pub(crate) fn tally_of(net: &Net<'_>, shown: &ShownCounts) -> Tally
     requires live { net.now.spent ≡ false }
     requires stepped { 0 < net.now.next }
     requires shown { AreShown net.now shown.now }

@@ -12,7 +12,7 @@ ghost use Rattle.sync_sweep.specs.Outcomes.{AreSoManyLoops, IsShown, IsBoundAfte
 ghost use Rattle.sync_sweep.specs.private.ShownNow.{AreShown};
 
 use crate::counting::tally_of;
-use crate::shown::Shown;
+use crate::shown::ShownCounts;
 use settle_trace::{Walk, loops, settled};
 use std::alloc::Global;
 use sync_net::Net;
@@ -104,7 +104,7 @@ fn loops_of(
 pub(crate) fn outcome_of(
     alloc: Global,
     net: &Net<'_>,
-    shown: &Shown,
+    shown: &ShownCounts,
     last: u64,
     bound: Option<u64>,
 ) -> Result<Outcome, NoMemory>

@@ -16,17 +16,17 @@ use sync_text::NoMemory;
 
 /// The state and the level of each element, by its number, counted.
 #[derive(Debug, Drop)]
-pub struct Shown {
+pub struct ShownCounts {
     pub states: CountedStates,
     pub levels: CountedLevels,
 }
 
 /// What each element of a network shows.
-pub(crate) fn all_shown(alloc: Global, net: &Net<'_>) -> Result<Shown, NoMemory>
+pub(crate) fn all_shown(alloc: Global, net: &Net<'_>) -> Result<ShownCounts, NoMemory>
     requires live { net.now.spent ≡ false }
     ensures { IfOk result (AreShown net.now) }
 {
-    Ok(Shown {
+    Ok(ShownCounts {
         states: all_states(alloc, net)?,
         levels: all_levels(alloc, net)?,
     })
@@ -34,7 +34,7 @@ pub(crate) fn all_shown(alloc: Global, net: &Net<'_>) -> Result<Shown, NoMemory>
 
 /// What is kept of another network becomes what is shown by a network that differs from it at some
 /// places alone.
-pub(crate) fn note_shown(net: &Net<'_>, shown: &mut Shown, places: &[u32])
+pub(crate) fn note_shown(net: &Net<'_>, shown: &mut ShownCounts, places: &[u32])
     requires live { net.now.spent ≡ false }
     requires within { All (λ e. e < length net.now.plan.elements) places.now }
     requires states { length shown.old.states ≡ length net.now.plan.elements }

@@ -8,7 +8,7 @@ use Rattle.sync_topo.specs.Sizes.{most_elements}
 use Rattle.sync_text.specs.Number.{number_of}
 use Rattle.sync_ql.specs.declared.levels.NetOption.{NetOption}
 use Rattle.sync_ql.specs.declared.limits.TheConstants.{LAST_MILLISECOND}
-use Rattle.sync_ql.specs.declared.levels.NetOption.TheVariants.{I, II}
+use Rattle.plan_rows.specs.Format.{option_of}
 use Rattle.sync_top.specs.declared.form.PlanForm.{PlanForm}
 use Rattle.sync_top.specs.declared.form.PlanForm.TheVariants.{Rank, Chains, Protected, Protect, Agree, Hops, Nominate, PrioRank, Sweep}
 use Rattle.sync_top.specs.declared.form.FileForm.{FileForm}
@@ -41,10 +41,6 @@ pub data Form : Type 0 where
 -- a word that may name a file: any but the empty one
 abbrev pub is_file_word : List ℕ → Bool
 is_file_word word = nat_lt 0 (length word)
-
--- the network option of a word
-abbrev pub option_of : List ℕ → Option NetOption
-option_of word = if bytes_eq word (codes "I") then Some I else if bytes_eq word (codes "II") then Some II else None
 
 -- how many elements a ladder may have: as many as a plan of the size
 abbrev pub is_ladder_size : Size → ℕ → Bool

@@ -1,10 +1,12 @@
 ghost use Rattle.std.specs.Prelude.{◌≡◌, ◌≤◌, false, IsTrue, length, map, Some, None, IfSome, if◌then◌else◌};
 ghost use Rattle.std.specs.Option.{option_map};
 ghost use Rattle.std.specs.String.{string_bytes};
-ghost use Rattle.sync_top.specs.Form.{form_of, form_in, are_large, form_of_two, form_of_three, form_of_four, file_form, sweep_form, node_form, ladder_size, millisecond_of, option_of, is_file_word, plan_word, file_word, run_word, frames_word, frames_word_in, ladder_word};
+ghost use Rattle.plan_rows.specs.Format.{option_of};
+ghost use Rattle.sync_top.specs.Form.{form_of, form_in, are_large, form_of_two, form_of_three, form_of_four, file_form, sweep_form, node_form, ladder_size, millisecond_of, is_file_word, plan_word, file_word, run_word, frames_word, frames_word_in, ladder_word};
 ghost use Rattle.sync_topo.specs.Sizes.{most_elements};
 ghost use Rattle.sync_top.specs.private.FormSeen.{seen, IsFileTimed, IsSized};
 
+use plan_rows::option_of_text;
 use sync_ql::NetOption;
 use sync_ql::limits::LAST_MILLISECOND;
 use sync_text::read_number;
@@ -395,17 +397,6 @@ fn millisecond_of(word: &str) -> Option<u64>
     }
 }
 
-/// The network option of a word.
-fn option_of(word: &str) -> Option<NetOption>
-    ensures { result ≡ option_of word.now }
-{
-    match word {
-        "I" => Some(NetOption::I),
-        "II" => Some(NetOption::II),
-        _ => None,
-    }
-}
-
 /// The network option of a word, if another word may name a file.
 fn option_with(option: &str, name: &str) -> Option<NetOption>
     ensures { result ≡ (if is_file_word name.now then option_of option.now else None) }
@@ -413,5 +404,5 @@ fn option_with(option: &str, name: &str) -> Option<NetOption>
     if name.is_empty() {
         return None;
     }
-    option_of(option)
+    option_of_text(option)
 }

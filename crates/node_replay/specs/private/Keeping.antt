@@ -22,7 +22,7 @@ use Rattle.node_file.specs.NodeRow.{events_in, frames_on}
 use Rattle.node_replay.specs.declared.inputs.InputNow.{InputNow}
 use Rattle.node_replay.specs.declared.inputs.LastLevel.{LastLevel}
 use Rattle.node_replay.specs.declared.lines_out.LineOut.{LineOut}
-use Rattle.node_replay.specs.declared.shown.Shown.{Shown}
+use Rattle.node_replay.specs.declared.shown.InputAndLevel.{InputAndLevel}
 use Rattle.node_replay.specs.declared.frames.Sent.{Sent}
 use Rattle.node_rules.specs.Replay.{last_of}
 use Rattle.node_rules.specs.NodeText.{carried}
@@ -70,10 +70,10 @@ input_after here t input = record {
 }
 
 -- the level that the element gives a line, and what the line says where it speaks
-abbrev pub level_out : Topology → Shown → ℕ → Level
+abbrev pub level_out : Topology → InputAndLevel → ℕ → Level
 level_out plan shown line = if is_way_back plan shown.taken line then do_not_use_of plan.option else shown.level
 
-unfoldable pub said_by : Topology → Shown → ℕ → Bool → Option Level
+unfoldable pub said_by : Topology → InputAndLevel → ℕ → Bool → Option Level
 said_by plan shown line speaks = if speaks then Some (level_out plan shown line) else None
 
 -- a line out of the element after the rows of a millisecond
@@ -83,7 +83,7 @@ out_up here out = unwrap_or (last_word (says_up (Line out.line)) (events_in here
 abbrev pub out_esmc : List NodeRow → LineOut → Bool
 out_esmc here out = unwrap_or (last_word (says_esmc out.line.0) (events_in here)) out.esmc
 
-unfoldable pub out_after : Topology → List NodeRow → Shown → LineOut → LineOut
+unfoldable pub out_after : Topology → List NodeRow → InputAndLevel → LineOut → LineOut
 out_after plan here shown out = record {
   line = out.line;
   up = out_up here out;

@@ -18,15 +18,15 @@ use Rattle.node_file.specs.declared.row.NodeRow.{NodeRow}
 use Rattle.node_file.specs.NodeRow.{rows_at}
 use Rattle.node_replay.specs.declared.inputs.InputNow.{InputNow}
 use Rattle.node_replay.specs.declared.lines_out.LineOut.{LineOut}
-use Rattle.node_replay.specs.declared.shown.Shown.{Shown}
-use Rattle.node_replay.specs.declared.running.Run.{Run}
+use Rattle.node_replay.specs.declared.shown.InputAndLevel.{InputAndLevel}
+use Rattle.node_replay.specs.declared.running.NodeRun.{NodeRun}
 use Rattle.node_rules.specs.NodeText.{lines_out}
 use Rattle.node_replay.specs.Rows.{IsRowList}
 use Rattle.node_replay.specs.private.Keeping.{said_by, level_after}
 
 -- an element takes this, and has this level, after any past for which it stands, and after the milliseconds that follow
 -- up to its due time, if nothing is told
-pub record Shows (plan : Topology) (number : ℕ) (element : ElementState) (shown : Shown) : Type 0 where
+pub record Shows (plan : Topology) (number : ℕ) (element : ElementState) (shown : InputAndLevel) : Type 0 where
   pub taken : (past : List Moment) (n : ℕ) → Element.StandsFor element past → IsInTime element n
       → shown.taken ≡ taken_by plan number (moments_until (settings_of plan number) n past)
   pub level : (past : List Moment) (n : ℕ) → Element.StandsFor element past → IsInTime element n
@@ -43,11 +43,11 @@ abbrev pub AreSteady : List InputNow → ℕ → Type 0
 AreSteady inputs m = Each (λ input. level_after input.id input.up input.last input.level m ≡ input.level) inputs
 
 -- what the lines say is what the element gives them
-abbrev pub AreGiven : Topology → Shown → List LineOut → Type 0
+abbrev pub AreGiven : Topology → InputAndLevel → List LineOut → Type 0
 AreGiven plan shown lines = Each (λ out. out.said ≡ said_by plan shown out.line.0 (out.up && out.esmc)) lines
 
 -- a run of an element of the plan, whatever rows came
-pub record IsRun (plan : Topology) (number : ℕ) (run : Run) : Type 0 where
+pub record IsRun (plan : Topology) (number : ℕ) (run : NodeRun) : Type 0 where
   pub well_formed : IsWellFormed plan
   pub settings : run.element.settings ≡ settings_of plan number
   pub ids : map (λ input. input.id) run.inputs.items ≡ inputs_of plan number

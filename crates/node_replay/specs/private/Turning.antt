@@ -9,7 +9,7 @@ use Rattle.sync_topo.specs.Lines.{inputs_of}
 use Rattle.node_file.specs.declared.row.NodeRow.{NodeRow}
 use Rattle.node_replay.specs.declared.inputs.InputNow.{InputNow}
 use Rattle.node_replay.specs.declared.frames.Sent.{Sent}
-use Rattle.node_replay.specs.declared.running.Run.{Run}
+use Rattle.node_replay.specs.declared.running.NodeRun.{NodeRun}
 use Rattle.node_replay.specs.private.Keeping.{heard_of, input_after, out_after, sent_row}
 use Rattle.node_replay.specs.private.Telling.{all_told}
 use Rattle.node_replay.specs.private.Running.{Shows}
@@ -22,7 +22,7 @@ pub record IsWake (now : ℕ) (due : Option ℕ) (inputs : List InputNow) (wake 
   pub seconds : (m : ℕ) → now < m → m < wake → nat_eq (m % second) 0 ≡ false
 
 -- the rows of the next millisecond are taken in, and the element has made its step
-pub record IsTaken (plan : Topology) (number : ℕ) (here : List NodeRow) (before after : Run) : Type 0 where
+pub record IsTaken (plan : Topology) (number : ℕ) (here : List NodeRow) (before after : NodeRun) : Type 0 where
   pub inputs : after.inputs.items ≡ map (input_after here before.next) before.inputs.items
   pub stepped : IsStepped before.next (all_told (inputs_of plan number) number here after.inputs.items) before.element after.element
   pub shows : Shows plan number after.element after.shown
@@ -34,7 +34,7 @@ pub record IsTaken (plan : Topology) (number : ℕ) (here : List NodeRow) (befor
   pub stopped : after.stopped ≡ before.stopped
 
 -- the frames of a millisecond are written, or the run stops before it
-pub record IsWritten (plan : Topology) (number now : ℕ) (frames : List Sent) (before after : Run) : Type 0 where
+pub record IsWritten (plan : Topology) (number now : ℕ) (frames : List Sent) (before after : NodeRun) : Type 0 where
   pub element : after.element ≡ before.element
   pub shown : after.shown ≡ before.shown
   pub inputs : after.inputs.items ≡ before.inputs.items

@@ -7,7 +7,7 @@ use Rattle.sync_topo.specs.Topology.{Topology}
 use Rattle.sync_topo.specs.Lines.{line_count, sender_of, receiver_of}
 use Rattle.nominate.specs.HopCount.{Counts, count_at, IsRoot}
 use Rattle.nominate.specs.LocalFacts.{HasNeighbour}
-use Rattle.nominate.specs.declared.search.Search.{Search}
+use Rattle.nominate.specs.declared.search.HopSearch.{HopSearch}
 
 -- the input is a source
 abbrev pub is_source : InputId → Bool
@@ -19,11 +19,11 @@ abbrev pub left_over : Counts → ℕ
 left_over counts = count_by is_none counts
 
 -- a bound on the work that is left
-abbrev pub work : Search → ℕ
+abbrev pub work : HopSearch → ℕ
 work search = left_over search.counts.items + length search.current.items + length search.next.items
 
 -- the counts so far, and who waits
-pub record IsSearching (plan : Topology) (search : Search) : Type 0 where
+pub record IsSearching (plan : Topology) (search : HopSearch) : Type 0 where
   pub counted : length search.counts.items ≡ length plan.elements
   pub roots : (element : ℕ) → IsRoot plan element → count_at search.counts.items element ≡ Some 0
   pub zeros : (element : ℕ) → count_at search.counts.items element ≡ Some 0 → IsRoot plan element
@@ -42,16 +42,16 @@ abbrev pub IsLed : Topology → Counts → ℕ → ℕ → Type 0
 IsLed plan counts element hops = (line : ℕ) → line < line_count plan → sender_of plan line ≡ element → IsClose counts hops (receiver_of plan line)
 
 -- the element waits to be looked at
-abbrev pub IsWaiting : Search → ℕ → Type 0
+abbrev pub IsWaiting : HopSearch → ℕ → Type 0
 IsWaiting search element = Contains search.current.items element ⊎ Contains search.next.items element
 
 -- each element with a count leads on to elements that are close, or waits
-abbrev pub AreKept : Topology → Search → Type 0
+abbrev pub AreKept : Topology → HopSearch → Type 0
 AreKept plan search =
     (element hops : ℕ) → count_at search.counts.items element ≡ Some hops → IsLed plan search.counts.items element hops ⊎ IsWaiting search element
 
 -- the same, but for one element
-abbrev pub AreKeptBut : Topology → Search → ℕ → Type 0
+abbrev pub AreKeptBut : Topology → HopSearch → ℕ → Type 0
 AreKeptBut plan search but =
     (element hops : ℕ) → count_at search.counts.items element ≡ Some hops
     → (element ≡ but) ⊎ (IsLed plan search.counts.items element hops ⊎ IsWaiting search element)
@@ -61,7 +61,7 @@ abbrev pub AreLed : Topology → Counts → Type 0
 AreLed plan counts = (element hops : ℕ) → count_at counts element ≡ Some hops → IsLed plan counts element hops
 
 -- more elements have counts, and wait for the next depth
-pub record IsMore (plan : Topology) (before after : Search) : Type 0 where
+pub record IsMore (plan : Topology) (before after : HopSearch) : Type 0 where
   pub searching : IsSearching plan after
   pub grows : (element hops : ℕ) → count_at before.counts.items element ≡ Some hops → count_at after.counts.items element ≡ Some hops
   pub fresh : (element hops : ℕ) → count_at after.counts.items element ≡ Some hops
@@ -72,7 +72,7 @@ pub record IsMore (plan : Topology) (before after : Search) : Type 0 where
   pub work : work after ≤ work before
 
 -- the element with its count is taken out of those that wait
-pub record IsTakenOut (plan : Topology) (before after : Search) (element : ℕ) : Type 0 where
+pub record IsTakenOut (plan : Topology) (before after : HopSearch) (element : ℕ) : Type 0 where
   pub searching : IsSearching plan after
   pub counts : after.counts.items ≡ before.counts.items
   pub of_depth : count_at after.counts.items element ≡ Some after.depth

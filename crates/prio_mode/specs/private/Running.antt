@@ -17,15 +17,15 @@ use Rattle.net_rules.specs.Signals.{signals_by}
 use Rattle.event_times.specs.EventTimes.{AreTold, AreAhead, MomentsLeft}
 use Rattle.net_words.specs.NewElements.{IsNewElement, by_priority}
 use Rattle.net_words.specs.Tellings.{told_to}
-use Rattle.prio_mode.specs.declared.shown.Shown.{Shown}
+use Rattle.prio_mode.specs.declared.shown.ShownByPriority.{ShownByPriority}
 use Rattle.prio_mode.specs.declared.shown.Seen.{Seen}
-use Rattle.prio_mode.specs.declared.running.Run.{Run}
+use Rattle.prio_mode.specs.declared.running.PriorityRun.{PriorityRun}
 use Rattle.prio_mode.specs.PriorityAlone.{priority_settings, priority_moment}
 use Rattle.prio_mode.specs.PriorityRows.{shown_after, rows_until}
 
 -- an element of a plan shows this after any past for which it stands, and after the milliseconds that
 -- follow up to its due time, if nothing is told; and the input is one of the plan
-pub record Shows (plan : Topology) (number : ℕ) (element : ElementState) (shown : Shown) : Type 0 where
+pub record Shows (plan : Topology) (number : ℕ) (element : ElementState) (shown : ShownByPriority) : Type 0 where
   pub shows : (past : List Moment) (n : ℕ) → Element.StandsFor element past → IsInTime element n
       → shown ≡ shown_after plan number (moments_until (priority_settings plan number) n past)
   pub input : IfSome shown.input (IsInput plan)
@@ -68,7 +68,7 @@ pub record Kept : Type 0 where
   pub told : List InputEvent
   pub due : Option ℕ
 
-abbrev pub kept_at : Topology → Run → ℕ → Kept
+abbrev pub kept_at : Topology → PriorityRun → ℕ → Kept
 kept_at plan run e = record {
   one = slice_index_or run.seen.items e (nobody plan);
   told = told_to run.tellings e;
@@ -76,7 +76,7 @@ kept_at plan run e = record {
 }
 
 -- each list has one entry for each element
-pub record AreCounted (plan : Topology) (run : Run) : Type 0 where
+pub record AreCounted (plan : Topology) (run : PriorityRun) : Type 0 where
   pub seen : length run.seen.items ≡ length plan.elements
   pub changes : length run.tellings.changes.items ≡ length plan.elements
   pub flags : length run.tellings.active.flags ≡ length plan.elements
@@ -91,22 +91,22 @@ pub record IsReady (plan : Topology) (next number : ℕ) (kept : Kept) : Type 0 
   pub due : kept.due ≡ kept.one.element.due
 
 -- a run before a millisecond: all elements are ready
-pub record IsRun (plan : Topology) (next : ℕ) (run : Run) : Type 0 where
+pub record IsRun (plan : Topology) (next : ℕ) (run : PriorityRun) : Type 0 where
   pub counted : AreCounted plan run
   pub ready : (e : ℕ) → e < length plan.elements → IsReady plan next e (kept_at plan run e)
 
-abbrev pub RunStands : Topology → List Event → ℕ → Run → Type 0
+abbrev pub RunStands : Topology → List Event → ℕ → PriorityRun → Type 0
 RunStands plan events n run = (e : ℕ) → e < length plan.elements
     → IsOfPast plan events e n (kept_at plan run e).one.element
 
 -- after n milliseconds it stands for events, and has put their rows
-abbrev pub HasRun : Topology → List Event → ℕ → Run → List ℕ → List ℕ → Type 0
+abbrev pub HasRun : Topology → List Event → ℕ → PriorityRun → List ℕ → List ℕ → Type 0
 HasRun plan events n run first text = RunStands plan events n run ×
     (text ≡ first ++ rows_until plan events n)
 
 -- how far it has come with events up to a millisecond, of which some are left
 pub record IsOnWay (plan : Topology) (events : List Event) (left : MomentsLeft) (until : ℕ)
-    (before run : Run) (first text : List ℕ) : Type 0 where
+    (before run : PriorityRun) (first text : List ℕ) : Type 0 where
   pub run_is : IsRun plan left.next run
   pub until_same : left.until ≡ until
   pub ahead : (all : List Event) → AreTold plan all 0 until events → AreAhead plan all left

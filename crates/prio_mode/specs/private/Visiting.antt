@@ -9,7 +9,7 @@ use Rattle.sync_topo.specs.declared.event.Event.{Event}
 use Rattle.sync_topo.specs.Topology.{Topology}
 use Rattle.net_words.specs.Tellings.{is_active}
 use Rattle.net_words.specs.Words.{all_words}
-use Rattle.prio_mode.specs.declared.running.Run.{Run}
+use Rattle.prio_mode.specs.declared.running.PriorityRun.{PriorityRun}
 use Rattle.prio_mode.specs.PriorityAlone.{priority_settings}
 use Rattle.prio_mode.specs.PriorityRows.{row_between}
 use Rattle.prio_mode.specs.private.Running.{Shows, Kept, kept_at, AreCounted}
@@ -31,7 +31,7 @@ pub record IsCalled (now : ℕ) (words : List InputEvent) (marked : Bool) (was i
     pub later : IfSome is.due (λ due. now < due)
 
 -- so each element was
-pub record AreCalled (plan : Topology) (now : ℕ) (here : List Event) (before after : Run) : Type 0
+pub record AreCalled (plan : Topology) (now : ℕ) (here : List Event) (before after : PriorityRun) : Type 0
   where
     pub counted : AreCounted plan after
     pub each : (e : ℕ) → e < length plan.elements → IsCalled now (all_words plan here e)
@@ -49,7 +49,7 @@ abbrev pub row_of : Topology → ℕ → ℕ → Kept → Kept → List ℕ
 row_of plan now e was is = row_between plan now e was.one.shown is.one.shown
 
 -- one element alone made its step, and its change is written
-pub record IsAloneVisited (plan : Topology) (now e : ℕ) (before after : Run)
+pub record IsAloneVisited (plan : Topology) (now e : ℕ) (before after : PriorityRun)
     (text text_then : List ℕ) : Type 0 where
   pub counted : AreCounted plan after
   pub here : IsVisited plan now e (kept_at plan before e) (kept_at plan after e)
@@ -57,7 +57,7 @@ pub record IsAloneVisited (plan : Topology) (now e : ℕ) (before after : Run)
   pub row : text_then ≡ text ++ row_of plan now e (kept_at plan before e) (kept_at plan after e)
 
 -- those that are listed did, one after another
-pub record AreVisited (plan : Topology) (now : ℕ) (order : List ℕ) (before after : Run)
+pub record AreVisited (plan : Topology) (now : ℕ) (order : List ℕ) (before after : PriorityRun)
     (text text_then : List ℕ) : Type 0 where
   pub counted : AreCounted plan after
   pub here : (e : ℕ) → list_any (nat_eq e) order ≡ true

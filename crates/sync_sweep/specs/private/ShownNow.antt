@@ -9,7 +9,7 @@ use Rattle.sync_ql.specs.Output.{clock_level_at, state_at}
 use Rattle.sync_element.specs.ElementState.{ElementState, IsInTime}
 use Rattle.sync_element.specs.StandsFor as Element
 use Rattle.sync_net.specs.NetState.{NetState}
-use Rattle.sync_sweep.specs.declared.shown.Shown.{Shown}
+use Rattle.sync_sweep.specs.declared.shown.ShownCounts.{ShownCounts}
 
 -- an element shows this state, up to but not at its due time, if nothing is told
 pub record ShowsState (element : ElementState) (state : ClockState) : Type 0 where
@@ -34,7 +34,7 @@ pub record AreLevels (net : NetState) (levels : List Level) : Type 0 where
   pub each : (e : ℕ) (element : ElementState) (other : Level) → e < length net.plan.elements →
       ShowsLevel (slice_index_or net.elements e element) (slice_index_or levels e other)
 
-pub record AreShown (net : NetState) (shown : Shown) : Type 0 where
+pub record AreShown (net : NetState) (shown : ShownCounts) : Type 0 where
   pub states : AreStates net shown.states
   pub levels : AreLevels net shown.levels
 

@@ -9,14 +9,14 @@ use Rattle.settle_trace.proofs.taken.taken_input.Goals as goal
 pub returns-clause-own : goal.returns-clause-own
 returns-clause-own c =
     own-input c.args.net.now.plan c.args.element c.selected.result c.input_at.result
-    (c.input_at.ensures ∙ ap (λ inputs. option_and_then (slice_get inputs) c.selected.result) (c.inputs.ensures.inputs ∙ ap (λ p. inputs_of p c.args.element) c.plan.ensures))
+    (c.input_at.ensures.input ∙ ap (λ p. option_and_then (slice_get (inputs_of p c.args.element)) c.selected.result) c.plan.ensures)
 
 pub returns-clause-now : goal.returns-clause-now
 returns-clause-now c = λ stepped all stands.
     let net = c.args.net.now in
     taken-now net.plan (signals_of net all) (out_of net all) c.args.element net.next c.element.result.now c.selected.result c.input_at.result stepped
     (c.element.ensures.stands all net.next stands) c.selected.ensures.selected
-    (c.input_at.ensures ∙ ap (λ inputs. option_and_then (slice_get inputs) c.selected.result) (c.inputs.ensures.inputs ∙ ap (λ p. inputs_of p c.args.element) c.plan.ensures))
+    (c.input_at.ensures.input ∙ ap (λ p. option_and_then (slice_get (inputs_of p c.args.element)) c.selected.result) c.plan.ensures)
 
 pub returns-clause-taking : goal.returns-clause-taking
 returns-clause-taking c = λ other.
@@ -24,7 +24,7 @@ returns-clause-taking c = λ other.
     subst (λ element. IsTaking net.plan c.args.element element c.input_at.result) (c.element.ensures.element other)
     (record {
       is = λ past n stands in_time.
-          c.input_at.ensures
-          ∙ ap (λ inputs. option_and_then (slice_get inputs) c.selected.result) (c.inputs.ensures.inputs ∙ ap (λ p. inputs_of p c.args.element) c.plan.ensures)
+          c.input_at.ensures.input
+          ∙ ap (λ p. option_and_then (slice_get (inputs_of p c.args.element)) c.selected.result) c.plan.ensures
           ∙ ap (option_and_then (slice_get (inputs_of net.plan c.args.element))) (c.selected.ensures.selected past n stands in_time);
     })

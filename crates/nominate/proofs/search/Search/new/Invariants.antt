@@ -1,5 +1,0 @@
-use Rattle.nominate.proofs.SearchLemmas.{IsStart}
-use Rattle.nominate.proofs.search.Search.new.Given as goal
-
-abbrev pub invariant-loop-element : goal.invariant-loop-element
-invariant-loop-element l = IsStart l.plan l.element l.counts.items l.current.items
